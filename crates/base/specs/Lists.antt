@@ -1,0 +1,11 @@
+-- Statements over every element of a list.
+use mathlib.Core.List.{List, [], _∷_, _++_}
+
+abbrev pub All : {A : Type 0} → (A → Type 0) → List A → Type 0
+All P [] = Unit {0}
+All P (x ∷ xs) = P x × All P xs
+
+-- the lists that f gives, one after the other
+abbrev pub each : {A B : Type 0} → (A → List B) → List A → List B
+each f [] = []
+each f (x ∷ xs) = f x ++ each f xs

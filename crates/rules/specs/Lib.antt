@@ -1,0 +1,15 @@
+pub mod Head
+pub mod Kind
+pub mod Record
+pub mod Walk
+pub mod Formula
+pub mod Sheet
+pub mod ReadFormula
+pub mod ReadSheet
+pub mod WriteSheet
+pub mod Certificate
+pub mod WriteCertificate
+pub mod Clauses
+pub mod Resolution
+pub mod Verdict
+pub mod Samples
