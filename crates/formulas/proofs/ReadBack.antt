@@ -11,7 +11,7 @@ use Rattle.rules.specs.Record.{number, twoBytes, oneOf}
 use Rattle.rules.specs.Formula.{Leaf.input, Leaf.coil, Leaf.constant, Entry, Entry.put, Entry.NOT, Entry.AND, Entry.OR}
 use Rattle.rules.specs.ReadFormula.{formulaKinds}
 use Rattle.rules.specs.WriteSheet.{writeEntry}
-use Rattle.formulas.specs.Part.{partFor, partOf, lengthOf}
+use Rattle.formulas.specs.Part.{partFor, entryFor, partOf, lengthOf}
 use Rattle.formulas.specs.declared.Part.{Part}
 use Rattle.formulas.specs.declared.Part.the-variants.{Input, Coil, Constant, Not, And, Or, Closing}
 
@@ -28,6 +28,25 @@ read-back (put (constant false)) rest = refl
 read-back NOT rest = refl
 read-back AND rest = refl
 read-back OR rest = refl
+
+pub entry-back : (e : Entry) → entryFor (partFor e) ≡ e
+unfolding partFor entryFor
+entry-back (put (input n)) = refl
+entry-back (put (coil n)) = refl
+entry-back (put (constant b)) = refl
+entry-back NOT = refl
+entry-back AND = refl
+entry-back OR = refl
+
+-- a formula record is not taken for a closing one
+pub not-closing : (e : Entry) → partFor e ≡ Closing → ⊥
+unfolding partFor
+not-closing (put (input n)) h = let z : _≡_ {A = ℕ} 0 1 = cc in omega arith
+not-closing (put (coil n)) h = let z : _≡_ {A = ℕ} 0 1 = cc in omega arith
+not-closing (put (constant b)) h = let z : _≡_ {A = ℕ} 0 1 = cc in omega arith
+not-closing NOT h = let z : _≡_ {A = ℕ} 0 1 = cc in omega arith
+not-closing AND h = let z : _≡_ {A = ℕ} 0 1 = cc in omega arith
+not-closing OR h = let z : _≡_ {A = ℕ} 0 1 = cc in omega arith
 
 pub length-back : (e : Entry) → lengthOf (partFor e) ≡ length (writeEntry e)
 unfolding partFor writeEntry

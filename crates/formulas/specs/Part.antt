@@ -20,6 +20,16 @@ partFor NOT = Not
 partFor AND = And
 partFor OR = Or
 
+-- the formula record of a case; a closing record is none, and its case does not matter
+unfoldable pub entryFor : Part → Entry
+entryFor (Input n) = put (input n)
+entryFor (Coil n) = put (coil n)
+entryFor (Constant b) = put (constant b)
+entryFor Not = NOT
+entryFor And = AND
+entryFor Or = OR
+entryFor Closing = OR
+
 -- what stands at the front of bytes
 unfoldable pub partOf : List ℕ → Part
 partOf bs =

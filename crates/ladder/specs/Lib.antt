@@ -1,0 +1,4 @@
+pub mod Values
+pub mod Evaluate
+pub mod Scan
+pub mod Starts

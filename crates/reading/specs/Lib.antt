@@ -1,0 +1,4 @@
+pub mod Readings
+pub mod Sheets
+pub mod Traces
+pub mod Certificates

@@ -1,0 +1,11 @@
+pub mod PileLaws
+pub mod KindLaws
+pub mod TotalLaws
+pub mod StepLaws
+pub mod RungLaws
+pub mod FrontLaws
+pub mod RecordLaws
+pub mod WalkLaws
+pub mod SheetLaws
+pub mod InvariantLaws
+pub mod OpenLaws

@@ -1,0 +1,4 @@
+pub mod Pile
+pub mod Draft
+pub mod Answer
+pub mod Certificate

@@ -1,0 +1,11 @@
+pub mod Gates
+pub mod Records
+pub mod Rungs
+pub mod Settled
+pub mod Extends
+pub mod Merged
+pub mod Units
+pub mod Sets
+pub mod PlaceLaws
+pub mod Counted
+pub mod Endings
