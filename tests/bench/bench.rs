@@ -156,9 +156,8 @@ fn print_stack(rng: &mut Rng, jobs: &[Job]) {
     }
     let [ours, theirs] = CHECKS.map(|check| most_stack(&pairs, check));
     println!("stack of the checker, bytes:     library {ours}, second {theirs}");
-    let [ours, theirs] = TRANSLATES.map(|translate| {
-        most_stack(&pairs, |sheet, cert, work| translate(2, sheet, cert, work))
-    });
+    let [ours, theirs] = TRANSLATES
+        .map(|translate| most_stack(&pairs, |sheet, cert, work| translate(2, sheet, cert, work)));
     println!("stack of the translator, bytes:  library {ours}, second {theirs}");
 }
 

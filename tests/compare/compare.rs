@@ -8,16 +8,19 @@
 mod answer;
 mod boundaries;
 mod case;
+mod certificate_sides;
 mod child;
 mod confirm;
 mod counts;
 mod damage;
 mod files;
+mod large;
 mod lent;
 mod library;
 mod made;
 mod probes;
 mod programs;
+mod sheet_sides;
 mod tally;
 
 // Cases that the second program's selftest asks of that program alone; here
@@ -45,7 +48,7 @@ use tally::Tally;
 
 type Part = (&'static str, fn(&mut Tally));
 
-const PARTS: [Part; 17] = [
+const PARTS: [Part; 18] = [
     ("samples", samples::run),
     ("slips", samples::slips),
     ("both sides of each refusal", boundaries::run),
@@ -63,6 +66,7 @@ const PARTS: [Part; 17] = [
     ("records in no order", made::soup),
     ("sheets at the limits", made::limits),
     ("long refutations", made::long),
+    ("long refutations of large sheets", made::long_and_large),
 ];
 
 struct Words {
@@ -113,7 +117,7 @@ fn part(tally: &mut Tally, name: &'static str, run: impl FnOnce(&mut Tally)) {
 fn words() -> Words {
     let mut words = Words {
         seed: 20_260_101,
-        cases: 2_000,
+        cases: 3_000,
         programs: None,
         folder: None,
     };

@@ -27,11 +27,19 @@ impl Folder {
     /// Open to everybody, for a program that is run as nobody.
     pub fn new(path: &Path) -> Folder {
         fs::create_dir_all(path).expect("the folder can be made");
-        fs::set_permissions(path, fs::Permissions::from_mode(0o755)).expect("its owner may");
+        allow(path, 0o755);
         Folder {
             path: path.to_path_buf(),
             made: 0,
         }
+    }
+
+    /// A copy in the folder that everybody may run.
+    pub fn program(&self, from: &Path, name: &str) -> PathBuf {
+        let to = self.path.join(name);
+        fs::copy(from, &to).expect("the program can be copied");
+        allow(&to, 0o755);
+        to
     }
 
     /// A new file with this content.
@@ -45,6 +53,7 @@ impl Folder {
     pub fn named(&self, name: &OsStr, content: &[u8]) -> Named {
         let path = self.path.join(name);
         fs::write(&path, content).expect("the folder can be written to");
+        allow(&path, 0o644);
         Named {
             name: path.into(),
             content: Some(content.to_vec()),
@@ -90,9 +99,13 @@ impl Folder {
     /// A file that only its owner could make readable, for the nobody user.
     pub fn locked(&mut self, content: &[u8]) -> Named {
         let file = self.file(content);
-        fs::set_permissions(&file.name, fs::Permissions::from_mode(0)).expect("its owner may");
+        allow(Path::new(&file.name), 0);
         not_read(file.name)
     }
+}
+
+fn allow(path: &Path, mode: u32) {
+    fs::set_permissions(path, fs::Permissions::from_mode(mode)).expect("its owner may");
 }
 
 fn not_read(name: OsString) -> Named {

@@ -1,5 +1,6 @@
 //! Random cases, from the seed.
 
+use crate::large::large;
 use crate::probes::probes;
 use crate::tally::Tally;
 use second::make::{self, encode, Limit, Rng, Width};
@@ -163,17 +164,36 @@ pub fn long(tally: &mut Tally) {
     for round in 0..1 + tally.rounds / 40 {
         for width in [Width::Narrow, Width::Wide] {
             let (sheet, cert) = make::benchmark(&mut tally.rng, width);
-            tally.answers(format!("{width:?}"), &sheet, &cert, Answer::Accepted);
-            for _ in 0..10 {
-                damaged(tally, &sheet, &cert);
-            }
-            if let Some(cert) = make::too_wide(&mut tally.rng, &sheet, &cert) {
-                tally.ask("too wide", &sheet, &cert);
-            }
-            probes(tally, &sheet, &cert);
+            long_refutations(tally, &sheet, &cert);
             if round == 0 {
                 prefixes(tally, &sheet, &cert);
             }
         }
     }
+}
+
+/// The same for sheets that are as large as may be.
+pub fn long_and_large(tally: &mut Tally) {
+    let mut found = 0;
+    for _ in 0..1 + tally.rounds / 300 {
+        for rungs in [1, 7, Sheet::COILS] {
+            let width = tally.rng.pick(&[Width::Narrow, Width::Wide]);
+            if let Some((sheet, cert)) = large(&mut tally.rng, rungs, width) {
+                found += 1;
+                long_refutations(tally, &sheet, &cert);
+            }
+        }
+    }
+    tally.right("a certificate for a large sheet is found", found > 0);
+}
+
+fn long_refutations(tally: &mut Tally, sheet: &[u8], cert: &[u8]) {
+    tally.answers("long", sheet, cert, Answer::Accepted);
+    for _ in 0..10 {
+        damaged(tally, sheet, cert);
+    }
+    if let Some(cert) = make::too_wide(&mut tally.rng, sheet, cert) {
+        tally.ask("too wide", sheet, &cert);
+    }
+    probes(tally, sheet, cert);
 }

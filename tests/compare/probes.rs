@@ -1,6 +1,6 @@
-//! Single steps put behind the steps of a right refutation. An answer shows no
-//! derived clause, but whether such a step is refused, and with which number,
-//! shows whether a literal is in one and how wide two are together.
+//! One or two steps put behind the first steps of a right refutation. An answer
+//! shows no derived clause, but whether such a step is refused, and with which
+//! number, shows whether a literal is in one and how wide two are together.
 
 use crate::tally::Tally;
 use second::make::damage::split;
@@ -16,19 +16,19 @@ pub fn probes(tally: &mut Tally, sheet: &[u8], cert: &[u8]) {
     for _ in 0..PROBES {
         let row = &rows[tally.rng.below(rows.len())];
         let taken = tally.rng.between(1, row.steps.len());
+        let before = &cert[..row.place + 7 * taken];
         if let Some(step) = row.fitting_step(&mut tally.rng, taken) {
-            probe(tally, sheet, cert, row, taken, step);
-            let other = changed(&mut tally.rng, step);
-            probe(tally, sheet, cert, row, taken, other);
+            for steps in row.probes(&mut tally.rng, taken, step) {
+                let steps = steps.iter().flat_map(encoded);
+                let bytes: Vec<u8> = before.iter().copied().chain(steps).collect();
+                tally.ask("probe", sheet, &bytes);
+            }
         }
     }
 }
 
-/// The certificate as far as the row's first so many steps, and one step more.
-fn probe(tally: &mut Tally, sheet: &[u8], cert: &[u8], row: &Row, taken: usize, step: Step) {
-    let mut bytes = cert[..row.place + 7 * taken].to_vec();
-    bytes.extend(encode::step(step.first, step.second, step.pivot));
-    tally.ask("probe", sheet, &bytes);
+fn encoded(step: &Step) -> Vec<u8> {
+    encode::step(step.first, step.second, step.pivot)
 }
 
 /// A step like this one that may not fit.
@@ -100,27 +100,37 @@ impl Row {
     }
 
     fn take(&mut self, step: Step) {
-        let (first, second) = (
-            &self.clauses[step.first - 1],
-            &self.clauses[step.second - 1],
-        );
-        let derived = resolvent(first, second, 2 * step.pivot as u16);
-        self.clauses.push(derived);
+        self.clauses.push(self.derived(step));
         self.steps.push(step);
+    }
+
+    fn derived(&self, step: Step) -> Literals {
+        let clause = |number: usize| &self.clauses[number - 1];
+        let plain = 2 * step.pivot as u16;
+        resolvent(clause(step.first), clause(step.second), plain)
     }
 
     /// A step that names one of the clauses derived by the first so many steps
     /// and has its pivot in both with the needed signs.
     fn fitting_step(&self, rng: &mut Rng, taken: usize) -> Option<Step> {
-        let there = &self.clauses[..self.given + taken];
         let one = self.given + rng.below(taken);
-        if there[one].is_empty() {
+        self.step_with(rng, taken, one, &self.clauses[one])
+    }
+
+    /// A step that names the clause `one` and, for some literal of it, one of
+    /// those there that hold the opposite.
+    fn step_with(
+        &self,
+        rng: &mut Rng,
+        taken: usize,
+        one: usize,
+        clause: &Literals,
+    ) -> Option<Step> {
+        if clause.is_empty() {
             return None;
         }
-        let literal = rng.pick(&there[one]);
-        let holders: Vec<usize> = (0..there.len())
-            .filter(|&index| there[index].contains(&(literal ^ 1)))
-            .collect();
+        let literal = rng.pick(clause);
+        let holders = self.holders(taken, |clause| clause.contains(&(literal ^ 1)));
         if holders.is_empty() {
             return None;
         }
@@ -135,5 +145,53 @@ impl Row {
             second: second + 1,
             pivot: literal as usize / 2,
         })
+    }
+
+    /// A step that fits, others that may not, and one more that names what the
+    /// first one derives.
+    fn probes(&self, rng: &mut Rng, taken: usize, step: Step) -> Vec<Vec<Step>> {
+        let mut probes = vec![vec![step], vec![changed(rng, step)]];
+        probes.extend(self.near_miss(rng, taken, step).map(|other| vec![other]));
+        probes.extend(
+            self.next_step(rng, taken, step)
+                .map(|next| vec![step, next]),
+        );
+        probes
+    }
+
+    /// A step that fits the clause that another one derives.
+    fn next_step(&self, rng: &mut Rng, taken: usize, step: Step) -> Option<Step> {
+        let derived = self.derived(step);
+        self.step_with(rng, taken, self.given + taken, &derived)
+    }
+
+    /// The step with one of its clauses changed for one that lacks the pivot but
+    /// has a literal in its stead that differs in one bit.
+    fn near_miss(&self, rng: &mut Rng, taken: usize, step: Step) -> Option<Step> {
+        let plain = 2 * step.pivot as u16;
+        let needed = plain + rng.below(2) as u16;
+        let similar = needed ^ (1 << rng.below(12));
+        let lacking = |clause: &Literals| clause.contains(&similar) && !clause.contains(&needed);
+        let holders = self.holders(taken, lacking);
+        if holders.is_empty() {
+            return None;
+        }
+        let number = rng.pick(&holders) + 1;
+        Some(match needed == plain {
+            true => Step {
+                first: number,
+                ..step
+            },
+            false => Step {
+                second: number,
+                ..step
+            },
+        })
+    }
+
+    /// The clauses, given or derived by the first so many steps, that suit.
+    fn holders(&self, taken: usize, suits: impl Fn(&Literals) -> bool) -> Vec<usize> {
+        let there = &self.clauses[..self.given + taken];
+        (0..there.len()).filter(|&at| suits(&there[at])).collect()
     }
 }

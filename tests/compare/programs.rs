@@ -32,15 +32,15 @@ pub fn run(tally: &mut Tally, built: &Path, folder: &Path) {
     }
 }
 
-/// A copy in the folder: a user who may not enter the repository can run it.
+/// A copy of a program, if it is built: a user who may not enter the repository
+/// is to run it too.
 fn copied(built: &Path, name: &str, folder: &Folder) -> Option<PathBuf> {
-    let (from, to) = (built.join(name), folder.path.join(name));
-    if !from.is_file() {
-        println!("not there, so not run: {}", from.display());
-        return None;
+    let from = built.join(name);
+    if from.is_file() {
+        return Some(folder.program(&from, name));
     }
-    fs::copy(from, &to).expect("the program can be copied");
-    Some(to)
+    println!("not there, so not run: {}", from.display());
+    None
 }
 
 type File<'a> = Option<&'a [u8]>;

@@ -1,0 +1,6 @@
+pub mod SheetBytes
+pub mod TracedLaws
+pub mod FilledLaws
+pub mod CountLaws
+pub mod RefutedLaws
+pub mod CheckedLaws

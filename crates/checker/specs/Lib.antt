@@ -1,0 +1,3 @@
+pub mod Traced
+pub mod Refuted
+pub mod Checked

@@ -1,0 +1,60 @@
+use borrow.Author.Needs.{needs}
+use Rattle.clauses.proofs.EmitLaws.{clause·cases}
+use Rattle.clauses.proofs.gates.contact.Statement.{statement}
+use Rattle.clauses.proofs.gates.contact.Tie as tie
+use Rattle.clauses.proofs.gates.contact.Reads as reads
+use Rattle.clauses.proofs.gates.contact.Lts as lts
+use Rattle.clauses.proofs.gates.emit.Reads as emit-reads
+
+mul-emit : tie.Need-mul-emit
+mul-emit c = search needs
+
+add-emit : tie.Need-add-emit
+add-emit c = search needs
+
+mul-emit-2 : tie.Need-mul-emit-2
+mul-emit-2 c = search needs
+
+emit-requires : tie.Need-emit-requires
+emit-requires c κs = search needs
+
+add-emit-2 : tie.Need-add-emit-2
+add-emit-2 c = search needs
+
+mul-emit-3 : tie.Need-mul-emit-3
+mul-emit-3 c = search needs
+
+mul-emit-4 : tie.Need-mul-emit-4
+mul-emit-4 c = search needs
+
+add-emit-3 : tie.Need-add-emit-3
+add-emit-3 c = search needs
+
+emit-requires-2 : tie.Need-emit-requires-2
+emit-requires-2 c κs = search needs
+
+add-result : tie.Need-add-result
+add-result c = search needs
+
+same-length : tie.Need-same-length
+same-length c = search needs
+
+returns : tie.Need-returns
+returns c = search (needs, clause·cases)
+
+pub contact-spec : {M : Type 1} → statement M
+contact-spec =
+    tie.close
+    (tie.spec
+    mul-emit
+    add-emit
+    mul-emit-2
+    emit-requires
+    add-emit-2
+    mul-emit-3
+    mul-emit-4
+    add-emit-3
+    emit-requires-2
+    add-result
+    same-length
+    returns)

@@ -1,0 +1,6 @@
+pub mod Emits
+pub mod Stack
+pub mod Formed
+pub mod Runged
+pub mod Started
+pub mod Sets

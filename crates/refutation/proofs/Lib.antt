@@ -1,0 +1,15 @@
+pub mod PartLaws
+pub mod SlotLaws
+pub mod HasLaws
+pub mod AddLaws
+pub mod ResolveLaws
+pub mod CodeLaws
+pub mod ClauseLaws
+pub mod HeldLaws
+pub mod StepLaws
+pub mod MarkLaws
+pub mod JudgeLaws
+pub mod LoopLaws
+pub mod EndLaws
+pub mod PlaceLaws
+pub mod CaseLaws
