@@ -10,7 +10,7 @@ use second::Sheet;
 pub fn large(rng: &mut Rng, rungs: usize, width: Width) -> Option<(Vec<u8>, Vec<u8>)> {
     let sheet = sheet(rng, rungs);
     let invariant = invariant(rng);
-    let steps = [0; 3].map(|_| rng.between(400, Sheet::STEPS));
+    let steps = [0; 3].map(|_| rng.pick(&[400, 511, 512]));
     let cert = make::lengthened(rng, &sheet, &invariant, steps, width)?;
     Some((sheet, cert))
 }

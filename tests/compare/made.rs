@@ -165,7 +165,8 @@ pub fn long(tally: &mut Tally) {
         for width in [Width::Narrow, Width::Wide] {
             let (sheet, cert) = make::benchmark(&mut tally.rng, width);
             long_refutations(tally, &sheet, &cert);
-            if round == 0 {
+            // One is enough: it has ten thousand prefixes.
+            if round == 0 && width == Width::Narrow {
                 prefixes(tally, &sheet, &cert);
             }
         }

@@ -15,7 +15,9 @@ pub fn probes(tally: &mut Tally, sheet: &[u8], cert: &[u8]) {
     let rows = Row::of_each_refutation(sheet, cert);
     for _ in 0..PROBES {
         let row = &rows[tally.rng.below(rows.len())];
-        let taken = tally.rng.between(1, row.steps.len());
+        // Behind the last step too: where it was the 512th, 21 is near.
+        let from = tally.rng.pick(&[1, 1, 1, row.steps.len()]);
+        let taken = tally.rng.between(from, row.steps.len());
         let before = &cert[..row.place + 7 * taken];
         if let Some(step) = row.fitting_step(&mut tally.rng, taken) {
             for steps in row.probes(&mut tally.rng, taken, step) {

@@ -199,13 +199,18 @@ fn compared(tally: &mut Tally, run: &Run, wanted: &str) {
     println!("\nDIFFERENCE in {}: {:?}", tally.part, run.program);
     println!("words: {:?}", run.words);
     for word in &run.words {
-        let bytes = fs::read(word).unwrap_or_default();
-        if fs::metadata(word).is_ok_and(|it| it.is_file()) && bytes.len() < 2_000 {
-            println!("{word:?}: {bytes:02X?}");
-        }
+        print_content(&run.folder.join(word));
     }
     println!("{how}\nwanted: {}", shown(wanted.as_bytes()));
     std::process::exit(1)
+}
+
+/// Of plain files alone, for others may have no end.
+fn print_content(path: &Path) {
+    let plain = fs::metadata(path).is_ok_and(|it| it.is_file() && it.len() < 2_000);
+    if let (true, Ok(bytes)) = (plain, fs::read(path)) {
+        println!("{path:?}: {bytes:02X?}");
+    }
 }
 
 /// Files of all lengths and answers.

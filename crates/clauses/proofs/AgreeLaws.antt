@@ -1,10 +1,9 @@
 -- Clauses depend only on the variables of the inputs and coils that are named.
 -- Assumes nothing.
-use Prim.Native.Nat.{ℕ, zero, suc, _+_, _-_, _≤_, _<_}
-use mathlib.Core.Path.{_≡_, refl, sym, ap, ap₂, _∙_}
-use mathlib.Core.Bool.{Bool, true, false}
+use Prim.Native.Nat.{ℕ, _+_, _<_}
+use mathlib.Core.Path.{_≡_, refl, ap, ap₂}
+use mathlib.Core.Bool.{true, false}
 use mathlib.Core.List.{List, [], _∷_, _++_}
-use native.Mathlib.Omega.{arith}
 use lib.Dec.{eqb}
 use Rattle.base.specs.Pick.{pick}
 use Rattle.base.specs.Lists.{All}

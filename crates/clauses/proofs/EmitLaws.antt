@@ -1,15 +1,13 @@
 -- Clauses written one by one, by the tests of the code.
 -- Assumes nothing.
-use Prim.Native.Nat.{ℕ, zero, suc, _+_, _*_, _/_, _≤_, _<_}
-use mathlib.Core.Path.{_≡_, refl, sym, ap, _∙_}
+use Prim.Native.Nat.{ℕ, suc, _+_, _*_, _/_, _≤_, _<_}
+use mathlib.Core.Path.{_≡_, refl, ap, _∙_}
 use mathlib.Core.Bool.{Bool, true, false}
 use mathlib.Core.List.{List, [], _∷_, _++_}
 use native.Mathlib.Omega.{arith}
 use lib.ListN.{length, set, length-set}
-use lib.Dec.{leb}
 use borrow.Author.Tests.{le-leb, lt-leb}
-use Rattle.base.specs.Pick.{pick}
-use Rattle.rules.specs.Clauses.{Lit, Lit.plain, Lit.negated, Clause, place, placeOf, contactClauses, notClauses, andClauses, orClauses}
+use Rattle.rules.specs.Clauses.{Lit.plain, Lit.negated, Clause, place, placeOf, contactClauses, notClauses, andClauses, orClauses}
 use Rattle.clauses.specs.Emits.{stored, emits, Emitted, signed}
 
 module _ (w : List ℕ) (n a b c : ℕ) where

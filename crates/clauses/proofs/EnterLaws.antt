@@ -12,9 +12,9 @@ use Rattle.rules.specs.Clauses.{contactClauses}
 use Rattle.formulas.specs.declared.Part.{Part}
 use Rattle.formulas.specs.declared.Part.the-variants.{Input, Coil, Constant, Not, And, Or, Closing}
 use Rattle.clauses.specs.declared.Step.{Step}
-use Rattle.clauses.specs.declared.Step.the-variants.{On, Closed}
+use Rattle.clauses.specs.declared.Step.the-variants.{Closed}
 use Rattle.clauses.specs.Emits.{signed}
-use Rattle.clauses.specs.Stack.{stk, negation, conjunction, disjunction, varsOf, partClauses, takes, Ready, Put, Reaches, Enterable, Ended, Entered}
+use Rattle.clauses.specs.Stack.{stk, negation, conjunction, disjunction, partClauses, takes, Ready, Put, Reaches, Enterable, Entered}
 
 -- a contact's variable fits where the record is ready but for it
 with-contact : (v g : ℕ) (stack : List ℕ) (depth n : ℕ) → Ready 0 0 g stack depth n → v < 32768 → Ready 0 v g stack depth n

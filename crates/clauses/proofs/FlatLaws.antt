@@ -1,18 +1,16 @@
 -- A formula's defining clauses are those of its records in postfix order, from a stack of variables that never runs short.
 -- Assumes nothing.
-use Prim.Native.Nat.{ℕ, zero, suc, _+_, _-_, _*_, _≤_, _<_, max}
-use mathlib.Core.Path.{_≡_, refl, sym, ap, _∙_}
-use mathlib.Core.Bool.{Bool, true, false}
+use Prim.Native.Nat.{ℕ, _+_, _-_, _*_, _≤_, _<_}
+use mathlib.Core.Path.{_≡_, refl}
+use mathlib.Core.Bool.{true, false}
 use mathlib.Core.List.{List, [], _∷_, _++_, append-assoc, append-nil}
 use native.Mathlib.Omega.{arith}
-use lib.ListN.{length, getD, drop, length-append}
+use lib.ListN.{length, drop, length-append}
 use Rattle.rules.specs.Formula.{Leaf, Leaf.input, Leaf.coil, Leaf.constant, Formula, Formula.leaf, Formula.inverse, Formula.both, Formula.either, Entry, Entry.put, Entry.NOT, Entry.AND, Entry.OR, postfix, size, height}
 use Rattle.rules.specs.ReadFormula.{Bounds, arity}
 use Rattle.rules.specs.WriteSheet.{Names}
-use Rattle.rules.specs.Clauses.{Vars, Clause, top, leafClauses, notClauses, andClauses, orClauses, defining}
+use Rattle.rules.specs.Clauses.{Vars, Clause, top, leafClauses, defining}
 use Rattle.formulas.specs.Part.{partFor}
-use Rattle.formulas.specs.declared.Part.{Part}
-use Rattle.formulas.specs.declared.Part.the-variants.{Input, Coil, Constant, Not, And, Or, Closing}
 use Rattle.clauses.specs.Stack.{partClauses, takes}
 
 -- record g's clauses, then those of the records after it

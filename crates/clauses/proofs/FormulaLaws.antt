@@ -1,6 +1,6 @@
 -- The loop over a formula's records: the records that are left write, from here, what the whole formula writes from its start.
 -- Assumes nothing.
-use Prim.Native.Nat.{ℕ, zero, suc, _+_, _-_, _*_, _≤_, _<_}
+use Prim.Native.Nat.{ℕ, _+_, _-_, _≤_, _<_}
 use mathlib.Core.Path.{_≡_, refl, sym, ap, _∙_, subst}
 use mathlib.Core.List.{List, [], _∷_, _++_, append-assoc}
 use native.Mathlib.Omega.{arith}
@@ -15,15 +15,15 @@ use Rattle.rules.specs.WriteSheet.{writeEntry, writeFormula, Names}
 use Rattle.rules.specs.Clauses.{Clause, defining}
 use Rattle.formulas.specs.Part.{partFor, partOf, lengthOf}
 use Rattle.formulas.specs.declared.Part.{Part}
-use Rattle.formulas.specs.declared.Part.the-variants.{Input, Coil, Constant, Not, And, Or, Closing}
+use Rattle.formulas.specs.declared.Part.the-variants.{Closing}
 use Rattle.formulas.proofs.ReadBack.{closing-back, length-back}
 use Rattle.clauses.specs.declared.Step.{Step}
 use Rattle.clauses.specs.declared.Step.the-variants.{On, Closed}
 use Rattle.clauses.specs.Emits.{emits}
-use Rattle.clauses.specs.Stack.{stk, varsOf, partClauses, takes, Ready, Put, Reaches, Enterable, Entered}
-use Rattle.clauses.specs.Formed.{Closes, Mapped, Formed, FormulaAt, Written, FormulaWritten}
+use Rattle.clauses.specs.Stack.{stk, varsOf, partClauses, takes, Put, Reaches, Enterable, Entered}
+use Rattle.clauses.specs.Formed.{Mapped, Formed, FormulaAt, Written, FormulaWritten}
 use Rattle.clauses.proofs.EmitLaws.{emits-append}
-use Rattle.clauses.proofs.FlatLaws.{flat, flat-whole, takes-for, postfix-size, few-clauses, EntryNames, Proper, Sound, sound-whole}
+use Rattle.clauses.proofs.FlatLaws.{flat, flat-whole, takes-for, postfix-size, few-clauses, EntryNames, Sound, sound-whole}
 use Rattle.clauses.proofs.UniqueLaws.{not-closing, first-part, same-formula}
 
 -- es are left

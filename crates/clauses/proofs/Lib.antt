@@ -14,3 +14,6 @@ pub mod SetLaws
 pub mod KeepSetLaws
 pub mod SafeSetLaws
 pub mod ClauseSetLaws
+pub mod PlacesLaws
+pub mod TranslateLaws
+pub mod FewLaws

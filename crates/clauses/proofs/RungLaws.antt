@@ -1,7 +1,7 @@
 -- The loop over a sheet's rungs: the rungs that are left write, from here, what all of them write from the start.
 -- Assumes nothing.
-use Prim.Native.Nat.{ℕ, zero, suc, _+_, _-_, _*_, _≤_, _<_}
-use mathlib.Core.Path.{_≡_, refl, sym, ap, _∙_, subst, fun-ext}
+use Prim.Native.Nat.{ℕ, _+_, _-_, _*_, _≤_, _<_}
+use mathlib.Core.Path.{_≡_, refl, sym, ap, _∙_, fun-ext}
 use mathlib.Core.Bool.{Bool, true, false}
 use mathlib.Core.List.{List, [], _∷_, _++_, append-assoc}
 use native.Mathlib.Omega.{arith}
@@ -25,7 +25,7 @@ use Rattle.formulas.proofs.ReadBack.{two-bytes}
 use Rattle.clauses.specs.declared.Wrote.{Wrote}
 use Rattle.clauses.specs.Emits.{emits}
 use Rattle.clauses.specs.Stack.{varsOf}
-use Rattle.clauses.specs.Formed.{Closes, Mapped, Formed, FormulaAt, Written, FormulaWritten}
+use Rattle.clauses.specs.Formed.{Formed, FormulaAt, Written, FormulaWritten}
 use Rattle.clauses.specs.Runged.{CoilAt, Runged, RungsAt, Closed, RungsWritten}
 use Rattle.clauses.proofs.EmitLaws.{emits-append}
 use Rattle.clauses.proofs.FlatLaws.{few-clauses}

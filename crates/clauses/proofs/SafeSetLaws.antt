@@ -1,33 +1,30 @@
 -- Set 3, by the calls of the code.
 -- Assumes nothing.
-use Prim.Native.Nat.{ℕ, zero, suc, _+_, _-_, _*_, _/_, _≤_, _<_}
-use mathlib.Core.Path.{_≡_, refl, sym, ap, ap₂, _∙_, subst}
-use mathlib.Core.Bool.{Bool, true, false}
-use mathlib.Core.List.{List, [], _∷_, _++_, append-assoc}
+use Prim.Native.Nat.{ℕ, _+_, _-_, _≤_, _<_}
+use mathlib.Core.Path.{_≡_, ap, ap₂, _∙_, subst}
+use mathlib.Core.Bool.{true, false}
+use mathlib.Core.List.{List, _++_, append-assoc}
 use native.Mathlib.Omega.{arith}
-use lib.ListN.{length, getD, length-append}
+use lib.ListN.{length, length-append}
 use Rattle.base.specs.Lists.{each}
 use Rattle.rules.specs.declared.Limits.{Limits}
 use Rattle.rules.specs.Formula.{Formula, size}
-use Rattle.rules.specs.Sheet.{Start, Rung, Sheet}
+use Rattle.rules.specs.Sheet.{Sheet}
 use Rattle.rules.specs.ReadSheet.{sheetBounds}
 use Rattle.rules.specs.WriteSheet.{writeFormula, writeRung, sizes}
-use Rattle.rules.specs.Certificate.{Which.start, Which.keep, Which.safe, invariantBounds}
-use Rattle.rules.specs.Clauses.{Vars, Clause, before as beforeVars, after as afterVars, top, rungsAt, beforeAt, conditionAt, afterAt, ladder, condition, invariantBefore, invariantAfter, defining, closing, rungClauses, startUnits, clauseSet}
+use Rattle.rules.specs.Certificate.{Which.safe, invariantBounds}
+use Rattle.rules.specs.Clauses.{Clause, before as beforeVars, after as afterVars, top, rungsAt, beforeAt, conditionAt, ladder, condition, invariantBefore, defining, clauseSet}
 use Rattle.clauses.specs.declared.Layout.{Layout}
 use Rattle.clauses.specs.declared.Wrote.{Wrote}
-use Rattle.clauses.specs.Emits.{emits, signed, Emitted, Small}
+use Rattle.clauses.specs.Emits.{signed, Emitted, Small}
 use Rattle.clauses.specs.Stack.{varsOf}
-use Rattle.clauses.specs.Formed.{Formed, FormulaAt, Written, FormulaWritten, TopWritten, FormulaPassed}
-use Rattle.clauses.specs.Runged.{RungsAt, RungsWritten}
-use Rattle.clauses.specs.Started.{StartsAt, StartsWritten}
-use Rattle.clauses.specs.Sets.{Numbered, Given, SetAt, SetWritten}
-use Rattle.clauses.proofs.EmitLaws.{emits-append, emits-none}
+use Rattle.clauses.specs.Formed.{Formed, FormulaAt, Written, FormulaWritten, TopWritten}
+use Rattle.clauses.specs.Runged.{RungsWritten}
+use Rattle.clauses.specs.Sets.{Given, SetAt, SetWritten}
 use Rattle.clauses.proofs.FlatLaws.{few-clauses}
-use Rattle.clauses.proofs.AgreeLaws.{Agree}
-use Rattle.clauses.proofs.SheetLaws.{afterCondition, afterRungBytes, afterStarts}
-use Rattle.clauses.proofs.SetPartLaws.{small-numbered, agree-numbered, started, runged, ladder-written, condition-first, agree-ladder, after-small, condition-formed, condition-is, invariant-formed, invariant-is, before-room}
-use Rattle.clauses.proofs.SetLaws.{few-rungs, next, emitted, condition-at}
+use Rattle.clauses.proofs.SheetLaws.{afterCondition}
+use Rattle.clauses.proofs.SetPartLaws.{small-numbered, agree-numbered, ladder-written, condition-first, condition-formed, condition-is, invariant-formed, invariant-is, before-room}
+use Rattle.clauses.proofs.SetLaws.{few-rungs, next, emitted}
 
 module _ (s c : List ℕ) (h : Layout) (before after stack : List ℕ) (p : SetAt s c h before after stack)
     (out after₁ out₁ : List ℕ) (r : Wrote)

@@ -1,33 +1,32 @@
 -- The three sets, by the calls of the code.
 -- Assumes nothing.
-use Prim.Native.Nat.{ℕ, zero, suc, _+_, _-_, _*_, _/_, _≤_, _<_}
+use Prim.Native.Nat.{ℕ, zero, suc, _+_, _*_, _/_, _≤_, _<_}
 use mathlib.Core.Path.{_≡_, refl, sym, ap, ap₂, _∙_, subst}
-use mathlib.Core.Bool.{Bool, true, false}
-use mathlib.Core.List.{List, [], _∷_, _++_, append-assoc}
+use mathlib.Core.Bool.{false}
+use mathlib.Core.List.{List, [], _∷_, _++_}
 use native.Mathlib.Omega.{arith}
-use lib.ListN.{length, getD, length-append}
+use lib.ListN.{length, length-append}
 use Rattle.rules.specs.declared.Limits.{Limits}
 use Rattle.rules.specs.Formula.{Formula, size}
 use Rattle.rules.specs.Sheet.{Start, Rung, Sheet}
 use Rattle.rules.specs.ReadSheet.{sheetBounds}
 use Rattle.rules.specs.WriteSheet.{writeFormula, sizes}
-use Rattle.rules.specs.Certificate.{Which.start, Which.keep, Which.safe, invariantBounds}
-use Rattle.rules.specs.Clauses.{Vars, Clause, before as beforeVars, after as afterVars, top, beforeAt, conditionAt, afterAt, ladder, condition, invariantBefore, invariantAfter, defining, closing, rungClauses, startUnits, clauseSet}
+use Rattle.rules.specs.Certificate.{Which.start, invariantBounds}
+use Rattle.rules.specs.Clauses.{Vars, Clause, before as beforeVars, top, beforeAt, ladder, condition, invariantBefore, defining, closing, rungClauses, startUnits, clauseSet}
 use Rattle.clauses.specs.declared.Layout.{Layout}
 use Rattle.clauses.specs.declared.Wrote.{Wrote}
-use Rattle.clauses.specs.Emits.{emits, signed, Emitted, Small}
+use Rattle.clauses.specs.Emits.{emits, signed, Emitted}
 use Rattle.clauses.specs.Stack.{varsOf}
-use Rattle.clauses.specs.Formed.{Formed, FormulaAt, Written, FormulaWritten, TopWritten, FormulaPassed}
+use Rattle.clauses.specs.Formed.{Formed, FormulaAt, Written, TopWritten, FormulaPassed}
 use Rattle.clauses.specs.Runged.{RungsAt, RungsWritten}
 use Rattle.clauses.specs.Started.{StartsAt, StartsWritten}
-use Rattle.clauses.specs.Sets.{Numbered, Given, SetAt, SetWritten}
+use Rattle.clauses.specs.Sets.{Given, SetAt, SetWritten}
 use Rattle.clauses.proofs.EmitLaws.{emits-append, emits-none}
 use Rattle.clauses.proofs.FlatLaws.{few-clauses}
-use Rattle.clauses.proofs.AgreeLaws.{Agree}
 use Rattle.clauses.proofs.SheetLaws.{afterCondition, afterRungBytes, afterStarts}
-use Rattle.clauses.proofs.SetPartLaws.{small-numbered, agree-numbered, started, runged, ladder-written, condition-first, agree-ladder, after-small, condition-formed, condition-is, invariant-formed, invariant-is, before-room}
+use Rattle.clauses.proofs.SetPartLaws.{small-numbered, agree-numbered, started, runged, ladder-written, condition-first, condition-formed, invariant-formed, invariant-is, before-room}
 
-units-length : (ss : List Start) (c n : ℕ) → length (startUnits ss c n) ≡ n
+pub units-length : (ss : List Start) (c n : ℕ) → length (startUnits ss c n) ≡ n
 unfolding startUnits
 units-length ss c zero = refl
 units-length ss c (suc n) = ap suc (units-length ss (suc c) n)
@@ -83,16 +82,6 @@ module _ (s c : List ℕ) (h : Layout) (before after stack : List ℕ) (p : SetA
       formed =
           condition-formed (p .limits) s c h before after stack (p .sheet) (p .invariant) (p .rest) (p .given) (p .after-numbered) n few out after₁ out₁ r x stack₁ e f m k;
     }
-
-  -- the invariant's formula
-  invariant-at : (map stack′ : List ℕ) → ((j : ℕ) → getD map j 0 < 32768) → p .limits .coils ≤ length map → length stack′ ≡ length stack
-      → (g m : ℕ) → g + size (p .invariant) ≤ 32768 → m < 9000000000000000000 → FormulaAt c 1 map (h .coils + 1) g stack′ m
-  invariant-at map stack′ k w e g m b i = record {
-    bounds = invariantBounds (p .limits) (p .sheet);
-    formula = p .invariant;
-    rest = p .rest;
-    formed = invariant-formed (p .limits) s c h before after stack (p .sheet) (p .invariant) (p .rest) (p .given) map stack′ k w e g m b i;
-  }
 
   -- set 1
   module _ (out after₁ out₁ : List ℕ) (long : length out < 18446744073709551616) (r : Wrote)

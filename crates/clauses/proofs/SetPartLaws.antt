@@ -1,25 +1,25 @@
 -- The parts of the sets, from a good sheet and an invariant in bytes.
 -- Assumes nothing.
-use Prim.Native.Nat.{ℕ, zero, suc, _+_, _-_, _*_, _/_, _≤_, _<_}
+use Prim.Native.Nat.{ℕ, _+_, _≤_, _<_}
 use mathlib.Core.Path.{_≡_, refl, sym, ap, _∙_, subst}
 use mathlib.Core.Bool.{Bool, true, false}
-use mathlib.Core.List.{List, [], _∷_, _++_}
+use mathlib.Core.List.{List}
 use native.Mathlib.Omega.{arith}
 use lib.ListN.{length, getD, drop, List·getD-eq-default}
 use lib.Dec.{ltb}
 use borrow.Author.Tests.{ltb-true, ltb-false}
-use Rattle.base.specs.Lists.{All, each}
+use Rattle.base.specs.Lists.{each}
 use Rattle.rules.specs.declared.Limits.{Limits}
 use Rattle.rules.specs.Formula.{Formula, size}
-use Rattle.rules.specs.Sheet.{Rung, Sheet}
+use Rattle.rules.specs.Sheet.{Sheet}
 use Rattle.rules.specs.ReadSheet.{sheetBounds}
-use Rattle.rules.specs.WriteSheet.{writeFormula, writeStart, writeRung, sizes}
+use Rattle.rules.specs.WriteSheet.{writeStart, writeRung, sizes}
 use Rattle.rules.specs.Certificate.{invariantBounds}
-use Rattle.rules.specs.Clauses.{Vars, Clause, before as beforeVars, after as afterVars, rungsAt, conditionAt, beforeAt, afterAt, ladder, condition, invariantBefore, invariantAfter, defining, rungClauses, afterRungs}
+use Rattle.rules.specs.Clauses.{Vars, before as beforeVars, after as afterVars, rungsAt, conditionAt, beforeAt, ladder, condition, defining, rungClauses, afterRungs}
 use Rattle.clauses.specs.declared.Layout.{Layout}
 use Rattle.clauses.specs.declared.Wrote.{Wrote}
 use Rattle.clauses.specs.Stack.{varsOf}
-use Rattle.clauses.specs.Formed.{Mapped, Formed, Written}
+use Rattle.clauses.specs.Formed.{Formed, Written}
 use Rattle.clauses.specs.Runged.{Runged, Closed, RungsWritten}
 use Rattle.clauses.specs.Started.{Started}
 use Rattle.clauses.specs.Sets.{Numbered, Given}

@@ -1,17 +1,17 @@
 -- The parts of a sheet's bytes, and where each begins.
 -- Assumes nothing.
-use Prim.Native.Nat.{ℕ, zero, suc, _+_, _-_, _≤_, _<_}
+use Prim.Native.Nat.{ℕ, _+_, _≤_}
 use mathlib.Core.Path.{_≡_, refl, sym, ap, _∙_}
-use mathlib.Core.Bool.{Bool, true, false}
+use mathlib.Core.Bool.{false}
 use mathlib.Core.List.{List, [], _∷_, _++_, append-assoc}
 use native.Mathlib.Omega.{arith}
-use lib.ListN.{length, getD, drop, length-append}
+use lib.ListN.{length, getD, drop}
 use lib.Seq.{drop-drop, drop-at}
 use lib.Dec.{eqb}
 use Rattle.base.specs.Lists.{each}
 use Rattle.rules.specs.Kind
 use Rattle.rules.specs.Formula.{Leaf.input, Leaf.coil, Leaf.constant, Formula, Formula.leaf, Formula.inverse, Formula.both, Formula.either, Entry, Entry.put, Entry.NOT, Entry.AND, Entry.OR, postfix}
-use Rattle.rules.specs.Sheet.{Start, Rung, Sheet}
+use Rattle.rules.specs.Sheet.{Rung, Sheet}
 use Rattle.rules.specs.WriteSheet.{writeEntry, writeFormula, writeStart, writeRung, writeSheet}
 
 -- a formula has a first record, which is no START

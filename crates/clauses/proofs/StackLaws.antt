@@ -1,22 +1,19 @@
 -- A stack of variables in lent places, and one formula record on it, by the arms of the code.
 -- Assumes nothing.
 use Prim.Native.Nat.{ℕ, zero, suc, _+_, _-_, _≤_, _<_}
-use mathlib.Core.Path.{_≡_, refl, sym, ap, _∙_}
+use mathlib.Core.Path.{_≡_, refl, ap}
 use mathlib.Core.Bool.{Bool, true, false}
-use mathlib.Core.List.{List, [], _∷_}
+use mathlib.Core.List.{List, _∷_}
 use native.Mathlib.Numerals.{add-one}
 use native.Mathlib.Omega.{arith}
 use lib.ListN.{length, getD, drop, set}
 use lib.Seq.{getD-set-same, getD-set-other}
 use lib.Dec.{eqb}
 use borrow.Author.Tests.{eqb-true, eqb-false}
-use Rattle.rules.specs.Clauses.{Clause, contactClauses, notClauses, andClauses, orClauses}
-use Rattle.formulas.specs.declared.Part.{Part}
-use Rattle.formulas.specs.declared.Part.the-variants.{Input, Coil, Constant, Not, And, Or, Closing}
-use Rattle.clauses.specs.declared.Step.{Step}
-use Rattle.clauses.specs.declared.Step.the-variants.{On, Closed}
-use Rattle.clauses.specs.Emits.{emits, signed, Emitted, Small}
-use Rattle.clauses.specs.Stack.{stk, negation, conjunction, disjunction, varsOf, partClauses, takes, Ready, Put, Reaches, Enterable, Ended, Entered}
+use Rattle.rules.specs.Clauses.{Clause, notClauses, andClauses, orClauses}
+use Rattle.clauses.specs.declared.Step.the-variants.{On}
+use Rattle.clauses.specs.Emits.{Emitted, Small}
+use Rattle.clauses.specs.Stack.{stk, negation, conjunction, disjunction, Ready, Put}
 
 pub stk-length : (w : List ℕ) (d : ℕ) → length (stk w d) ≡ d
 unfolding stk

@@ -1,21 +1,21 @@
 -- The loop over the coils, beside the STARTs that are left: both rise, so a coil's START is the next one or there is none.
 -- Assumes nothing.
-use Prim.Native.Nat.{ℕ, zero, suc, _+_, _-_, _*_, _/_, _%_, _≤_, _<_}
+use Prim.Native.Nat.{ℕ, zero, suc, _+_, _-_, _/_, _%_, _≤_, _<_}
 use mathlib.Core.Path.{_≡_, refl, sym, ap, _∙_, subst}
-use mathlib.Core.Bool.{Bool, true, false, _&&_, and-false}
-use mathlib.Core.List.{List, [], _∷_, _++_, map, append-assoc}
+use mathlib.Core.Bool.{Bool, true, false, and-false}
+use mathlib.Core.List.{List, [], _∷_, _++_, map}
 use native.Mathlib.Numerals.{add-one}
 use native.Mathlib.Omega.{arith}
-use lib.ListN.{length, getD, drop, length-append, length-drop}
-use lib.Seq.{drop-drop, drop-at}
+use lib.ListN.{length, getD, drop, length-drop}
+use lib.Seq.{drop-drop}
 use lib.Dec.{eqb}
 use borrow.Author.Tests.{eq-eqb, ne-eqb, eqb-true, eqb-false}
 use mir.Val.{Fits}
-use mir.Syntax.{w16, w64}
+use mir.Syntax.{w16}
 use Rattle.base.specs.Pick.{pick}
 use Rattle.base.specs.Lists.{each}
 use Rattle.rules.specs.Kind
-use Rattle.rules.specs.Record.{number, twoBytes}
+use Rattle.rules.specs.Record.{number}
 use Rattle.rules.specs.Sheet.{Start, startOf}
 use Rattle.rules.specs.WriteSheet.{writeStart, bit, RisesFrom}
 use Rattle.rules.specs.Clauses.{Clause, startUnits}

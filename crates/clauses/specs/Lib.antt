@@ -4,3 +4,4 @@ pub mod Formed
 pub mod Runged
 pub mod Started
 pub mod Sets
+pub mod Translated

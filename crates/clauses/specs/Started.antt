@@ -1,7 +1,7 @@
 -- The START records of a sheet, and what it is to have written the unit clauses of its start values.
 use Prim.Native.Nat.{ℕ, _+_, _≤_, _<_}
 use mathlib.Core.Path.{_≡_}
-use mathlib.Core.Bool.{Bool, true, false, _&&_}
+use mathlib.Core.Bool.{false, _&&_}
 use mathlib.Core.List.{List, _++_, map}
 use lib.ListN.{length, getD, drop}
 use lib.Dec.{eqb}

@@ -4,6 +4,12 @@ mod gates;
 mod rungs;
 pub mod sets;
 mod starts;
+mod translator;
+
+use rules::Sheet;
+use rules::Written;
+ghost use Rattle.rules.specs.Head.{baseLimits};
+ghost use Rattle.clauses.specs.Translated.{Translated};
 
 // What a formula record does: it goes on, with a stack so high and the number of the next clause, or closes the formula.
 pub enum Step {
@@ -30,4 +36,18 @@ pub struct Layout {
     pub coils: u16,
     pub rungs: usize,
     pub at: usize,
+}
+
+// The translator: any set number, any bytes, any room. The set's clauses, three places a clause, or the first fault and nothing written.
+pub fn translate(set: u32, sheet: &[u8], certificate: &[u8], room: &mut [u16]) -> Written
+    ensures { λ r. ⌜ Translated baseLimits set (now (sheet .entry)) (now (certificate .entry)) (now (room .entry)) (now (room .exit)) r ⌝ }
+{
+    if set < 1 {
+        return Written::Withheld { no: 29, place: 0 };
+    }
+    if 3 < set {
+        return Written::Withheld { no: 29, place: 0 };
+    }
+    let l = Sheet::limits();
+    translator::translate_sheet(l, set as u8, sheet, certificate, room)
 }

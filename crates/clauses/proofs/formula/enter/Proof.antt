@@ -2,13 +2,6 @@ use borrow.Author.Needs.{needs}
 use Rattle.clauses.proofs.EnterLaws.{ready·cases, enter·cases}
 use Rattle.clauses.proofs.formula.enter.Statement.{statement}
 use Rattle.clauses.proofs.formula.enter.Tie as tie
-use Rattle.clauses.proofs.formula.enter.Reads as reads
-use Rattle.clauses.proofs.formula.enter.Lts as lts
-use Rattle.clauses.proofs.formula.put_and.Reads as put-and-reads
-use Rattle.clauses.proofs.formula.put_constant.Reads as put-constant-reads
-use Rattle.clauses.proofs.formula.put_contact.Reads as put-contact-reads
-use Rattle.clauses.proofs.formula.put_not.Reads as put-not-reads
-use Rattle.clauses.proofs.formula.put_or.Reads as put-or-reads
 
 enum-known-p : tie.Need-enum-known-p
 enum-known-p c = search needs

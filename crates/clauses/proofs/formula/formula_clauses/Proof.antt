@@ -5,11 +5,6 @@ use Rattle.clauses.proofs.FormulaLaws.{Walking}
 use lib.ListN.{length}
 use Rattle.clauses.proofs.formula.formula_clauses.Statement.{statement}
 use Rattle.clauses.proofs.formula.formula_clauses.Tie as tie
-use Rattle.clauses.proofs.formula.formula_clauses.Reads as reads
-use Rattle.clauses.proofs.formula.formula_clauses.Lts as lts
-use Rattle.clauses.proofs.formula.enter.Reads as enter-reads
-use Rattle.formulas.proofs.part_at.Reads as part-at-reads
-use Rattle.formulas.proofs.part_length.Reads as part-length-reads
 
 abbrev Inv-loop : tie.InvT-loop
 Inv-loop s at map base g stack₀ out₀ n place₀ next₀ count₀ depth₀ stack out place next count depth =

@@ -2,9 +2,6 @@ use borrow.Author.Needs.{needs}
 use Rattle.clauses.proofs.StackLaws.{put·cases}
 use Rattle.clauses.proofs.formula.put_and.Statement.{statement}
 use Rattle.clauses.proofs.formula.put_and.Tie as tie
-use Rattle.clauses.proofs.formula.put_and.Reads as reads
-use Rattle.clauses.proofs.formula.put_and.Lts as lts
-use Rattle.clauses.proofs.gates.both.Reads as both-reads
 
 sub-k : tie.Need-sub-k
 sub-k c = search needs

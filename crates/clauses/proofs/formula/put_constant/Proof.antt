@@ -2,9 +2,6 @@ use borrow.Author.Needs.{needs}
 use Rattle.clauses.proofs.StackLaws.{put·cases}
 use Rattle.clauses.proofs.formula.put_constant.Statement.{statement}
 use Rattle.clauses.proofs.formula.put_constant.Tie as tie
-use Rattle.clauses.proofs.formula.put_constant.Reads as reads
-use Rattle.clauses.proofs.formula.put_constant.Lts as lts
-use Rattle.clauses.proofs.gates.constant.Reads as constant-reads
 
 constant-requires : tie.Need-constant-requires
 constant-requires c κs = search needs

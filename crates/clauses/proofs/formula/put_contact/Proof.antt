@@ -2,9 +2,6 @@ use borrow.Author.Needs.{needs}
 use Rattle.clauses.proofs.StackLaws.{put·cases}
 use Rattle.clauses.proofs.formula.put_contact.Statement.{statement}
 use Rattle.clauses.proofs.formula.put_contact.Tie as tie
-use Rattle.clauses.proofs.formula.put_contact.Reads as reads
-use Rattle.clauses.proofs.formula.put_contact.Lts as lts
-use Rattle.clauses.proofs.gates.contact.Reads as contact-reads
 
 contact-requires : tie.Need-contact-requires
 contact-requires c κs = search needs

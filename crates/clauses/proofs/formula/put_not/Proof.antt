@@ -2,9 +2,6 @@ use borrow.Author.Needs.{needs}
 use Rattle.clauses.proofs.StackLaws.{put·cases}
 use Rattle.clauses.proofs.formula.put_not.Statement.{statement}
 use Rattle.clauses.proofs.formula.put_not.Tie as tie
-use Rattle.clauses.proofs.formula.put_not.Reads as reads
-use Rattle.clauses.proofs.formula.put_not.Lts as lts
-use Rattle.clauses.proofs.gates.inverse.Reads as inverse-reads
 
 sub-k : tie.Need-sub-k
 sub-k c = search needs

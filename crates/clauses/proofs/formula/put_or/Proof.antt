@@ -2,9 +2,6 @@ use borrow.Author.Needs.{needs}
 use Rattle.clauses.proofs.StackLaws.{put·cases}
 use Rattle.clauses.proofs.formula.put_or.Statement.{statement}
 use Rattle.clauses.proofs.formula.put_or.Tie as tie
-use Rattle.clauses.proofs.formula.put_or.Reads as reads
-use Rattle.clauses.proofs.formula.put_or.Lts as lts
-use Rattle.clauses.proofs.gates.either.Reads as either-reads
 
 sub-k : tie.Need-sub-k
 sub-k c = search needs

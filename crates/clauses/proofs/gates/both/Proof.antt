@@ -2,9 +2,6 @@ use borrow.Author.Needs.{needs}
 use Rattle.clauses.proofs.EmitLaws.{clause·cases}
 use Rattle.clauses.proofs.gates.both.Statement.{statement}
 use Rattle.clauses.proofs.gates.both.Tie as tie
-use Rattle.clauses.proofs.gates.both.Reads as reads
-use Rattle.clauses.proofs.gates.both.Lts as lts
-use Rattle.clauses.proofs.gates.emit.Reads as emit-reads
 
 mul-emit : tie.Need-mul-emit
 mul-emit c = search needs

@@ -2,9 +2,6 @@ use borrow.Author.Needs.{needs}
 use Rattle.clauses.proofs.EmitLaws.{clause·cases}
 use Rattle.clauses.proofs.gates.contact.Statement.{statement}
 use Rattle.clauses.proofs.gates.contact.Tie as tie
-use Rattle.clauses.proofs.gates.contact.Reads as reads
-use Rattle.clauses.proofs.gates.contact.Lts as lts
-use Rattle.clauses.proofs.gates.emit.Reads as emit-reads
 
 mul-emit : tie.Need-mul-emit
 mul-emit c = search needs

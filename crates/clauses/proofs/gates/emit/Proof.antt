@@ -2,8 +2,6 @@ use borrow.Author.Needs.{needs}
 use Rattle.clauses.proofs.EmitLaws.{emit·cases}
 use Rattle.clauses.proofs.gates.emit.Statement.{statement}
 use Rattle.clauses.proofs.gates.emit.Tie as tie
-use Rattle.clauses.proofs.gates.emit.Reads as reads
-use Rattle.clauses.proofs.gates.emit.Lts as lts
 
 returns : tie.Need-returns
 returns c = search (needs, emit·cases)

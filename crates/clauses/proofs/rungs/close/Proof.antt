@@ -1,9 +1,6 @@
 use borrow.Author.Needs.{needs}
 use Rattle.clauses.proofs.rungs.close.Statement.{statement}
 use Rattle.clauses.proofs.rungs.close.Tie as tie
-use Rattle.clauses.proofs.rungs.close.Reads as reads
-use Rattle.clauses.proofs.rungs.close.Lts as lts
-use Rattle.records.proofs.number_at.Reads as number-at-reads
 
 number-at-requires : tie.Need-number-at-requires
 number-at-requires c κs = search needs

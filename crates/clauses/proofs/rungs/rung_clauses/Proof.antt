@@ -4,10 +4,6 @@ use Prim.Native.Nat.{_-_}
 use Rattle.clauses.proofs.RungLaws.{Running}
 use Rattle.clauses.proofs.rungs.rung_clauses.Statement.{statement}
 use Rattle.clauses.proofs.rungs.rung_clauses.Tie as tie
-use Rattle.clauses.proofs.rungs.rung_clauses.Reads as reads
-use Rattle.clauses.proofs.rungs.rung_clauses.Lts as lts
-use Rattle.clauses.proofs.formula.formula_clauses.Reads as formula-clauses-reads
-use Rattle.clauses.proofs.rungs.close.Reads as close-reads
 
 abbrev Inv-loop : tie.InvT-loop
 Inv-loop s at rungs map₀ base g stack₀ out₀ n place₀ next₀ count₀ i₀ map stack out place next count i =

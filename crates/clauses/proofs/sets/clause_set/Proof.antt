@@ -2,12 +2,6 @@ use borrow.Author.Needs.{needs}
 use Rattle.clauses.proofs.ClauseSetLaws.{set-at, clause-set·cases}
 use Rattle.clauses.proofs.sets.clause_set.Statement.{statement}
 use Rattle.clauses.proofs.sets.clause_set.Tie as tie
-use Rattle.clauses.proofs.sets.clause_set.Reads as reads
-use Rattle.clauses.proofs.sets.clause_set.Lts as lts
-use Rattle.clauses.proofs.sets.keep_set.Reads as keep-set-reads
-use Rattle.clauses.proofs.sets.number_coils.Reads as number-coils-reads
-use Rattle.clauses.proofs.sets.safe_set.Reads as safe-set-reads
-use Rattle.clauses.proofs.sets.start_set.Reads as start-set-reads
 
 number-coils-requires : tie.Need-number-coils-requires
 number-coils-requires c κs = search needs

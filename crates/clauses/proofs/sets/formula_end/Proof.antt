@@ -2,9 +2,6 @@ use borrow.Author.Needs.{needs}
 use Rattle.clauses.proofs.TopLaws.{top·cases}
 use Rattle.clauses.proofs.sets.formula_end.Statement.{statement}
 use Rattle.clauses.proofs.sets.formula_end.Tie as tie
-use Rattle.clauses.proofs.sets.formula_end.Reads as reads
-use Rattle.clauses.proofs.sets.formula_end.Lts as lts
-use Rattle.clauses.proofs.formula.formula_clauses.Reads as formula-clauses-reads
 
 formula-clauses-requires : tie.Need-formula-clauses-requires
 formula-clauses-requires c κs = search needs

@@ -2,10 +2,6 @@ use borrow.Author.Needs.{needs}
 use Rattle.clauses.proofs.TopLaws.{top·cases}
 use Rattle.clauses.proofs.sets.formula_top.Statement.{statement}
 use Rattle.clauses.proofs.sets.formula_top.Tie as tie
-use Rattle.clauses.proofs.sets.formula_top.Reads as reads
-use Rattle.clauses.proofs.sets.formula_top.Lts as lts
-use Rattle.clauses.proofs.formula.formula_clauses.Reads as formula-clauses-reads
-use Rattle.clauses.proofs.gates.constant.Reads as constant-reads
 
 formula-clauses-requires : tie.Need-formula-clauses-requires
 formula-clauses-requires c κs = search needs

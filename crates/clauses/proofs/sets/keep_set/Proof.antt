@@ -5,11 +5,6 @@ use Rattle.clauses.proofs.KeepSetLaws.{keep-passes, keep-before, keep-a
 use mathlib.Core.Path.{_∙_}
 use Rattle.clauses.proofs.sets.keep_set.Statement.{statement}
 use Rattle.clauses.proofs.sets.keep_set.Tie as tie
-use Rattle.clauses.proofs.sets.keep_set.Reads as reads
-use Rattle.clauses.proofs.sets.keep_set.Lts as lts
-use Rattle.clauses.proofs.rungs.rung_clauses.Reads as rung-clauses-reads
-use Rattle.clauses.proofs.sets.formula_end.Reads as formula-end-reads
-use Rattle.clauses.proofs.sets.formula_top.Reads as formula-top-reads
 
 add-base : tie.Need-add-base
 add-base c = search needs

@@ -5,8 +5,6 @@ use lib.ListN.{length}
 use Rattle.clauses.proofs.TopLaws.{Numbering}
 use Rattle.clauses.proofs.sets.number_coils.Statement.{statement}
 use Rattle.clauses.proofs.sets.number_coils.Tie as tie
-use Rattle.clauses.proofs.sets.number_coils.Reads as reads
-use Rattle.clauses.proofs.sets.number_coils.Lts as lts
 
 abbrev Inv-loop : tie.InvT-loop
 Inv-loop map₀ i₀ map i =

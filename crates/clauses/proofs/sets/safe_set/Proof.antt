@@ -5,12 +5,6 @@ use Rattle.clauses.proofs.SafeSetLaws.{safe-condition, safe-before, saf
 use mathlib.Core.Path.{_∙_}
 use Rattle.clauses.proofs.sets.safe_set.Statement.{statement}
 use Rattle.clauses.proofs.sets.safe_set.Tie as tie
-use Rattle.clauses.proofs.sets.safe_set.Reads as reads
-use Rattle.clauses.proofs.sets.safe_set.Lts as lts
-use Rattle.clauses.proofs.formula.formula_clauses.Reads as formula-clauses-reads
-use Rattle.clauses.proofs.gates.constant.Reads as constant-reads
-use Rattle.clauses.proofs.rungs.rung_clauses.Reads as rung-clauses-reads
-use Rattle.clauses.proofs.sets.formula_top.Reads as formula-top-reads
 
 add-base : tie.Need-add-base
 add-base c = search needs

@@ -2,12 +2,6 @@ use borrow.Author.Needs.{needs}
 use Rattle.clauses.proofs.SetLaws.{start-rungs, start-passes, set-starts, start-invariant, start-written}
 use Rattle.clauses.proofs.sets.start_set.Statement.{statement}
 use Rattle.clauses.proofs.sets.start_set.Tie as tie
-use Rattle.clauses.proofs.sets.start_set.Reads as reads
-use Rattle.clauses.proofs.sets.start_set.Lts as lts
-use Rattle.clauses.proofs.rungs.rung_clauses.Reads as rung-clauses-reads
-use Rattle.clauses.proofs.sets.formula_end.Reads as formula-end-reads
-use Rattle.clauses.proofs.sets.formula_top.Reads as formula-top-reads
-use Rattle.clauses.proofs.starts.start_units.Reads as start-units-reads
 
 add-base : tie.Need-add-base
 add-base c = search needs
@@ -16,7 +10,7 @@ add-rung-clauses : tie.Need-add-rung-clauses
 add-rung-clauses c = search needs
 
 rung-clauses-requires : tie.Need-rung-clauses-requires
-rung-clauses-requires c κs = search (needs, start-rungs, set-starts)
+rung-clauses-requires c κs = search (needs, start-rungs)
 
 formula-end-requires : tie.Need-formula-end-requires
 formula-end-requires c κs =
@@ -25,7 +19,7 @@ formula-end-requires c κs =
     start-passes _ _ _ _ _ _ (a .pre) _ _ _ (a .good .1 .1 .1 .1 .1 .1 .0 .0) _ (r .rung-clauses .ensures) _ (r .rung-clauses .kept .1 .1 .1 .1 .1 .1 .0) (r .rung-clauses .kept .1 .1 .1 .0) (r .rung-clauses .kept .1 .1 .1 .1 .1 .1 .1 .0)
 
 start-units-requires : tie.Need-start-units-requires
-start-units-requires c κs = search (needs, start-rungs, set-starts)
+start-units-requires c κs = search (needs, set-starts)
 
 formula-top-requires : tie.Need-formula-top-requires
 formula-top-requires c κs =

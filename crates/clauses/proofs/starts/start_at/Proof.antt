@@ -2,10 +2,6 @@ use borrow.Author.Needs.{needs}
 use Rattle.clauses.proofs.StartLaws.{start-at·cases}
 use Rattle.clauses.proofs.starts.start_at.Statement.{statement}
 use Rattle.clauses.proofs.starts.start_at.Tie as tie
-use Rattle.clauses.proofs.starts.start_at.Reads as reads
-use Rattle.clauses.proofs.starts.start_at.Lts as lts
-use Rattle.records.proofs.byte_at.Reads as byte-at-reads
-use Rattle.records.proofs.number_at.Reads as number-at-reads
 
 byte-at-requires : tie.Need-byte-at-requires
 byte-at-requires c κs = search needs

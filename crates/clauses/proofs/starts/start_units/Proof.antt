@@ -4,10 +4,6 @@ use Prim.Native.Nat.{_-_}
 use Rattle.clauses.proofs.StartLaws.{Starting}
 use Rattle.clauses.proofs.starts.start_units.Statement.{statement}
 use Rattle.clauses.proofs.starts.start_units.Tie as tie
-use Rattle.clauses.proofs.starts.start_units.Reads as reads
-use Rattle.clauses.proofs.starts.start_units.Lts as lts
-use Rattle.clauses.proofs.gates.constant.Reads as constant-reads
-use Rattle.clauses.proofs.starts.start_at.Reads as start-at-reads
 
 abbrev Inv-loop : tie.InvT-loop
 Inv-loop s coils out₀ at₀ c₀ out at c =
