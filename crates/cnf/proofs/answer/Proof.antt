@@ -1,0 +1,65 @@
+use borrow.Author.Needs.{needs}
+use Rattle.loading.proofs.FillLaws.{loaded}
+use Rattle.cnf.proofs.answer.Statement.{statement}
+use Rattle.cnf.proofs.answer.Tie as tie
+use Rattle.cnf.proofs.answer.Reads as reads
+use Rattle.cnf.proofs.answer.Lts as lts
+use Rattle.cnf.proofs.say_set.Reads as say-set-reads
+use Rattle.cnf.proofs.say_unreadable.Reads as say-unreadable-reads
+
+enum-known-a : tie.Need-enum-known-a
+enum-known-a c = search needs
+
+enum-told : tie.Need-enum-told
+enum-told c = search needs
+
+say-unreadable-requires : tie.Need-say-unreadable-requires
+say-unreadable-requires c κs = search needs
+
+returns : tie.Need-returns
+returns c = search needs
+
+enum-known-b : tie.Need-enum-known-b
+enum-known-b c = search needs
+
+enum-told-2 : tie.Need-enum-told-2
+enum-told-2 c = search needs
+
+say-unreadable-requires-2 : tie.Need-say-unreadable-requires-2
+say-unreadable-requires-2 c κs = search needs
+
+returns-2 : tie.Need-returns-2
+returns-2 c = search needs
+
+slice-aggregate-say-set : tie.Need-slice-aggregate-say-set
+slice-aggregate-say-set c = search (needs, loaded)
+
+slice-aggregate-say-set-2 : tie.Need-slice-aggregate-say-set-2
+slice-aggregate-say-set-2 c = search (needs, loaded)
+
+slice-aggregate-say-set-3 : tie.Need-slice-aggregate-say-set-3
+slice-aggregate-say-set-3 c = search needs
+
+say-set-requires : tie.Need-say-set-requires
+say-set-requires c κs = search needs
+
+returns-3 : tie.Need-returns-3
+returns-3 c = search needs
+
+pub answer-spec : {M : Type 1} → statement M
+answer-spec =
+    tie.close
+    (tie.spec
+    enum-known-a
+    enum-told
+    say-unreadable-requires
+    returns
+    enum-known-b
+    enum-told-2
+    say-unreadable-requires-2
+    returns-2
+    slice-aggregate-say-set
+    slice-aggregate-say-set-2
+    slice-aggregate-say-set-3
+    say-set-requires
+    returns-3)

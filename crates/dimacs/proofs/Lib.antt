@@ -1,0 +1,3 @@
+pub mod ClauseLaws
+pub mod CountLaws
+pub mod SetLaws

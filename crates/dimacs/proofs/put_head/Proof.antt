@@ -1,0 +1,32 @@
+use borrow.Author.Needs.{needs}
+use Rattle.dimacs.proofs.ClauseLaws.{head-fits}
+use Rattle.dimacs.proofs.put_head.Statement.{statement}
+use Rattle.dimacs.proofs.put_head.Tie as tie
+use Rattle.dimacs.proofs.put_head.Reads as reads
+use Rattle.dimacs.proofs.put_head.Lts as lts
+use Rattle.writing.proofs.put_pair.Reads as put-pair-reads
+
+slice-aggregate-put-pair : tie.Need-slice-aggregate-put-pair
+slice-aggregate-put-pair c = search needs
+
+slice-aggregate-put-pair-2 : tie.Need-slice-aggregate-put-pair-2
+slice-aggregate-put-pair-2 c = search needs
+
+put-pair-requires : tie.Need-put-pair-requires
+put-pair-requires c κs = search (needs, head-fits)
+
+same-length : tie.Need-same-length
+same-length c = search needs
+
+returns : tie.Need-returns
+returns c = search needs
+
+pub put-head-spec : {M : Type 1} → statement M
+put-head-spec =
+    tie.close
+    (tie.spec
+    slice-aggregate-put-pair
+    slice-aggregate-put-pair-2
+    put-pair-requires
+    same-length
+    returns)
