@@ -37,7 +37,7 @@ use Rattle.clauses.specs.declared.Layout.{Layout}
 use Rattle.checker.specs.Traced.{TracedAt, Traces}
 use Rattle.checker.specs.Refuted.{Limited, SafeAt, begun, before-it, Follows}
 use Rattle.checker.specs.Checked.{Checked, layoutOf, Drawable, Small, Lent, SafeFor, JudgesSafe, OpenedFor, JudgesOpened, JudgesBytes}
-use Rattle.checker.proofs.SheetBytes.{starts-length}
+use Rattle.ladder.proofs.SheetBytes.{starts-length}
 
 -- a safety certificate
 module _ (l : Limits) (s c : List ℕ) (h : Outline) (before after stack w : List ℕ) where

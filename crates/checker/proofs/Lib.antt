@@ -1,4 +1,3 @@
-pub mod SheetBytes
 pub mod TracedLaws
 pub mod FilledLaws
 pub mod CountLaws

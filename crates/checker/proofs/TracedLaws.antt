@@ -25,7 +25,7 @@ use Rattle.ladder.proofs.StartLaws.{starts-are}
 use Rattle.trace.specs.Playing.{Drawn, ScanAt, ReplayAt, Replays}
 use Rattle.trace.specs.declared.Ladder.{Ladder}
 use Rattle.checker.specs.Traced.{startsOf, TracedAt, Traces}
-use Rattle.checker.proofs.SheetBytes.{ladder-at, starts-at, starts-named-here}
+use Rattle.ladder.proofs.SheetBytes.{ladder-at, starts-at, starts-named-here}
 
 cleared : (w : List ℕ) → on (fresh (length w) w) ≡ (λ (n : ℕ). false)
 cleared w = fun-ext (λ n. rw (all-zero w n))

@@ -5,3 +5,6 @@ pub mod EvaluateLaws
 pub mod RungLaws
 pub mod ScanLaws
 pub mod StartLaws
+pub mod SheetBytes
+pub mod ScannedLaws
+pub mod CallerLaws

@@ -1,12 +1,18 @@
 // The scan: a formula's value from its bytes, the rungs in order, and the condition after them.
+mod within;
+
 use formulas::Part;
+use rules::Sheet;
 ghost use mathlib.Core.Path.{_≡_};
 ghost use mathlib.Core.Bool.{_&&_, _||_, not};
 ghost use Prim.Native.Nat.{_+_, _<_};
 ghost use lib.ListN.{length};
+ghost use Rattle.rules.specs.Head.{baseLimits};
 ghost use Rattle.ladder.specs.Values.{bitOf, on, Put};
 ghost use Rattle.ladder.specs.Starts.{StartsAt, Initialises};
 ghost use Rattle.ladder.specs.Scan.{RungAt, RunsRung, RungsAt, RunsRungs, LadderAt, ScansOnce};
+ghost use Rattle.ladder.specs.Scanned.{ScansSheet, ScanMeans};
+ghost use Rattle.ladder.specs.Order.{Order};
 ghost use Rattle.ladder.specs.Evaluate.{Applicable, Applied, FormulaAt, Evaluates, boundsFor};
 
 // The place of a value.
@@ -178,3 +184,37 @@ pub fn initialise(s: &[u8], from: usize, starts: usize, coils: &mut [u16])
         i += 1;
     }
 }
+
+// The public scan's answer: whether the condition holds after it, or why there was none.
+pub enum Scanned {
+    Done { holds: bool },
+    Refused { no: u8, place: usize },
+}
+
+// One scan of any sheet bytes, over lent places; a place that is not zero is on. A refused scan changes no place.
+pub fn scan(sheet: &[u8], inputs: &[u16], coils: &mut [u16]) -> Scanned
+    ensures { λ r. ⌜ ScansSheet baseLimits (now (sheet .entry)) (now (inputs .entry)) (now (coils .entry)) (now (coils .exit)) r ⌝ }
+{
+    let l = Sheet::limits();
+    let i = l.inputs;
+    if inputs.len() < i {
+        return Scanned::Refused { no: 1, place: 0 };
+    }
+    let c = l.coils;
+    if coils.len() < c {
+        return Scanned::Refused { no: 1, place: 0 };
+    }
+    let mut marks = [0u16; 256];
+    let mut stack = [0u16; 32];
+    within::scan_within(l, sheet, inputs, coils, &mut marks, &mut stack)
+}
+
+// Nothing to run: a scan that is not refused is a scan as the meaning says.
+pub fn scan_means()
+    ensures { λ _. ⌜ ScanMeans ⌝ }
+{}
+
+// Nothing to run: a ladder whose second rung reads what the first has just set.
+pub fn rungs_in_order()
+    ensures { λ _. ⌜ Order ⌝ }
+{}

@@ -237,7 +237,7 @@ pub(crate) fn one_record(l: Limits, s: &[u8], marks: &mut [u16], d: Kept) -> Ste
     ensures { λ r. ⌜ Answers l (now (s .entry)) (now (marks .entry)) (now (marks .exit)) d r ⌝ }
 {
     let at = d.at;
-    match records::record_at(s, at) {
+    match reader::found_at(s, at) {
         Found::Nothing => Step::No(2),
         Found::NoKind => Step::No(3),
         Found::Cut { kind } => cut_record(d, kind),

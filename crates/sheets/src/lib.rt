@@ -207,7 +207,7 @@ pub enum Opened {
 pub fn open(c: &[u8], traces: bool) -> Opened
     ensures { λ r. ⌜ openedAs r ≡ reading (opening (openingKinds traces)) (now (c .entry)) 0 tt ⌝ }
 {
-    match records::record_at(c, 0) {
+    match reader::first(c) {
         Found::Nothing => Opened::Bad { no: 12, place: 0 },
         Found::NoKind => Opened::Bad { no: 13, place: 0 },
         Found::Cut { kind } => certificate::open_cut(kind, traces),

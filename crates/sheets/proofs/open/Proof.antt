@@ -4,12 +4,12 @@ use Rattle.sheets.proofs.open.Statement.{statement}
 use Rattle.sheets.proofs.open.Tie as tie
 use Rattle.sheets.proofs.open.Reads as reads
 use Rattle.sheets.proofs.open.Lts as lts
-use Rattle.records.proofs.record_at.Reads as record-at-reads
+use Rattle.reader.proofs.first.Reads as first-reads
 use Rattle.sheets.proofs.certificate.open_cut.Reads as open-cut-reads
 use Rattle.sheets.proofs.certificate.open_whole.Reads as open-whole-reads
 
-record-at-requires : tie.Need-record-at-requires
-record-at-requires c κs = search needs
+first-requires : tie.Need-first-requires
+first-requires c κs = search needs
 
 enum-told : tie.Need-enum-told
 enum-told c = search needs
@@ -45,7 +45,7 @@ pub open-spec : {M : Type 1} → statement M
 open-spec =
     tie.close
     (tie.spec
-    record-at-requires
+    first-requires
     enum-told
     enum-told-2
     enum-known-kind

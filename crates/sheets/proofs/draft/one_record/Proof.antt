@@ -4,12 +4,12 @@ use Rattle.sheets.proofs.draft.one_record.Statement.{statement}
 use Rattle.sheets.proofs.draft.one_record.Tie as tie
 use Rattle.sheets.proofs.draft.one_record.Reads as reads
 use Rattle.sheets.proofs.draft.one_record.Lts as lts
-use Rattle.records.proofs.record_at.Reads as record-at-reads
+use Rattle.reader.proofs.found_at.Reads as found-at-reads
 use Rattle.sheets.proofs.draft.cut_record.Reads as cut-record-reads
 use Rattle.sheets.proofs.draft.whole_record.Reads as whole-record-reads
 
-record-at-requires : tie.Need-record-at-requires
-record-at-requires c κs = search needs
+found-at-requires : tie.Need-found-at-requires
+found-at-requires c κs = search needs
 
 enum-told : tie.Need-enum-told
 enum-told c = search needs
@@ -48,7 +48,7 @@ pub one-record-spec : {M : Type 1} → statement M
 one-record-spec =
     tie.close
     (tie.spec
-    record-at-requires
+    found-at-requires
     enum-told
     enum-told-2
     enum-known-kind
