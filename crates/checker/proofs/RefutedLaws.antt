@@ -26,8 +26,8 @@ use Rattle.refutation.specs.declared.Refuted.the-variants.{Done, Fault}
 use Rattle.refutation.proofs.PlaceLaws.{held-places}
 use Rattle.refutation.proofs.CaseLaws.{nextCase, fault-is, done-is, end-is}
 use Rattle.checker.specs.Refuted.{Limited, clauseRoom, SafeAt, RefuteAt, before-it, begun, Refutes, Follows}
-use Rattle.checker.proofs.FilledLaws.{filled, filled-front, places-length}
-use Rattle.checker.proofs.CountLaws.{set-fits, shorts}
+use Rattle.clauses.proofs.PlacesLaws.{places-length, emits-places}
+use Rattle.checker.proofs.CountLaws.{set-fits, filled-front, shorts}
 
 module _ (l : Limits) (s c : List ℕ) (h : Layout) (before after stack work : List ℕ) (a : SafeAt l s c h before after stack work) where
   room-inside : clauseRoom l ≤ length work
@@ -59,7 +59,7 @@ module _ (l : Limits) (s c : List ℕ) (h : Layout) (before after stack work : L
         let p = part-long from e in
         let f = fits-part in
         let y : length x ≡ 3 * length cs + (length (take from work) - 3 * length cs) =
-        ap length (emitted .wrote ∙ filled (take from work) cs f) ∙ length-append (places cs) (drop (3 * length cs) (take from work))
+        ap length (emitted .wrote ∙ emits-places (take from work) cs f) ∙ length-append (places cs) (drop (3 * length cs) (take from work))
         ∙ rw (places-length cs, length-drop (3 * length cs) (take from work)) in
         omega arith
 

@@ -10,7 +10,7 @@ use borrow.Author.Tests.{le-leb}
 use Rattle.rules.specs.Clauses.{Clause, placeOf, places}
 use Rattle.clauses.specs.Emits.{stored, emits}
 
-places-length : (cs : List Clause) → length (places cs) ≡ 3 * length cs
+pub places-length : (cs : List Clause) → length (places cs) ≡ 3 * length cs
 unfolding places
 places-length [] = refl
 places-length (c ∷ cs) = let e = places-length cs in omega arith

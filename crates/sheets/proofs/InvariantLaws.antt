@@ -30,7 +30,7 @@ use Rattle.sheets.specs.declared.Turn.{Turn}
 use Rattle.sheets.specs.declared.Turn.the-variants.{Go, No, Done}
 use Rattle.sheets.specs.declared.InvariantAnswer.the-variants.{Good, Bad}
 use Rattle.sheets.proofs.TotalLaws.{Built, record-built, total-built, total-one, sizes-count, oneEach}
-use Rattle.sheets.proofs.FrontLaws.{move-nothing, move-unknown, move-cut, move-whole, whole-ends}
+use Rattle.records.proofs.FrontLaws.{move-nothing, move-unknown, move-cut, move-whole, whole-ends}
 use Rattle.sheets.proofs.WalkLaws.{Walking, walks-first, walks-no, walks-done, walks-go, within-go, further}
 
 module _ (k : ℕ) where

@@ -3,7 +3,6 @@ pub mod KindLaws
 pub mod TotalLaws
 pub mod StepLaws
 pub mod RungLaws
-pub mod FrontLaws
 pub mod RecordLaws
 pub mod WalkLaws
 pub mod SheetLaws

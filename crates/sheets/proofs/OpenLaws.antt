@@ -17,7 +17,7 @@ use Rattle.records.specs.declared.Found.the-variants.{Nothing, NoKind, Cut, Who
 use Rattle.sheets.specs.Certificate.{openingKinds, openedAs, WholeOpens, CutOpens}
 use Rattle.sheets.specs.declared.Opened.{Opened}
 use Rattle.sheets.specs.declared.Opened.the-variants.{Safe, Trace, Bad}
-use Rattle.sheets.proofs.FrontLaws.{move-nothing, move-unknown, move-cut, move-whole}
+use Rattle.records.proofs.FrontLaws.{move-nothing, move-unknown, move-cut, move-whole}
 use Rattle.sheets.proofs.WalkLaws.{walks-first, walks-no, walks-done}
 
 module _ (k : ℕ) (both : Bool) where

@@ -24,7 +24,7 @@ use Rattle.sheets.specs.declared.Step.{Step}
 use Rattle.sheets.specs.declared.Step.the-variants.{No, Done}
 use Rattle.sheets.proofs.KindLaws.{runs-formula, starts-runs}
 use Rattle.sheets.proofs.TotalLaws.{entry-bytes}
-use Rattle.sheets.proofs.FrontLaws.{front-whole, move-nothing, move-unknown, move-cut, move-whole, whole-ends}
+use Rattle.records.proofs.FrontLaws.{front-whole, move-nothing, move-unknown, move-cut, move-whole, whole-ends}
 
 never : {A : Type 0} → false ≡ true → A
 never e = let z : _≡_ {A = ℕ} 0 1 = cc in absurd (omega arith)

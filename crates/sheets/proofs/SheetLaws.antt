@@ -5,12 +5,13 @@ use mathlib.Core.Path.{_≡_, refl, sym, ap, _∙_}
 use mathlib.Core.Bool.{Bool, true, false}
 use mathlib.Core.List.{List, _++_}
 use native.Mathlib.Omega.{arith}
-use lib.ListN.{length, getD, drop, set, replicate, length-append, length-drop, length-replicate, getD-replicate, List·getD-append}
+use lib.ListN.{length, getD, drop}
 use lib.Seq.{drop-at}
 use lib.Dec.{ltb}
-use borrow.Author.Fill.{fill-none, fill-more}
 use borrow.Author.Tests.{lt-ltb, le-ltb}
 use Rattle.base.specs.Pick.{pick}
+use Rattle.base.specs.Lists.{fresh}
+use Rattle.base.proofs.ClearLaws.{fresh-length, fresh-rest, fresh-zero}
 use Rattle.rules.specs.declared.Limits.{Limits}
 use Rattle.rules.specs.Record.{recordLength}
 use Rattle.rules.specs.Walk.{_at_, Move.go, Move.no, Reading, moveAt, reading}
@@ -140,43 +141,18 @@ module _ (l : Limits) (s m₀ m m′ : List ℕ) (d : Kept) (r : Step) (i : Goin
 
 pub ruleset read-records·cases = (begins, turn-no, turn-go, turn-less, turn-inside, turn-done)
 
--- clearing the coils' places
-pub record Clearing (m₀ : List ℕ) (n : ℕ) (m : List ℕ) (i : ℕ) : Type 0 where
-  pub upto : i ≤ n
-  pub inside : n ≤ length m₀
-  pub long : length m ≡ length m₀
-  pub zeros : m ≡ replicate i 0 ++ drop i m₀
-
-pub clear-none : (m : List ℕ) (n : ℕ) → n ≤ length m → Clearing m n m 0
-clear-none m n h = record { upto = omega arith; inside = h; long = refl; zeros = fill-none m 0 }
-
-pub clear-more : (m₀ : List ℕ) (n : ℕ) (m : List ℕ) (i : ℕ) → Clearing m₀ n m i → i < n → Clearing m₀ n (set m i 0) (i + 1)
-clear-more m₀ n m i c h = record {
-  upto = omega arith;
-  inside = c .inside;
-  long = lib.ListN.length-set m i 0 ∙ c .long;
-  zeros = ap (λ (x : List ℕ). set x i 0) (c .zeros) ∙ fill-more i 0 m₀ (omega (arith, c .inside));
-}
-
-pub clear-all : (m₀ : List ℕ) (n : ℕ) (m : List ℕ) (i : ℕ) → Clearing m₀ n m i → n ≤ i → m ≡ replicate n 0 ++ drop n m₀
-clear-all m₀ n m i c h = let e : i ≡ n = omega (arith, c .upto) in c .zeros ∙ ap (λ (k : ℕ). replicate k 0 ++ drop k m₀) e
-
-pub ruleset clear·cases = (clear-none, clear-more, clear-all)
-
-module _ (l : Limits) (s m m₁ : List ℕ) (h : l .coils ≤ length m) (e : m₁ ≡ replicate (l .coils) 0 ++ drop (l .coils) m) where
+-- the coils' places are cleared first
+module _ (l : Limits) (s m m₁ : List ℕ) (h : l .coils ≤ length m) (e : m₁ ≡ fresh (l .coils) m) where
   long₁ : length m₁ ≡ length m
-  long₁ = rw e (simp (length-append, length-replicate, length-drop) (omega arith))
+  long₁ = rw e (fresh-length (l .coils) m h)
 
   pub sheet-cleared : Cleared l m₁
-  sheet-cleared = record {
-    room = omega (arith, long₁);
-    zeros = λ c k. rw e (List·getD-append (replicate (l .coils) 0) (drop (l .coils) m) 0 c (simp length-replicate k) ∙ getD-replicate (l .coils) c 0 0 k);
-  }
+  sheet-cleared = record { room = omega (arith, long₁); zeros = λ c k. rw e (fresh-zero (l .coils) m c k) }
 
   pub sheet-read : (m₂ : List ℕ) (r : SheetAnswer) → ReadAs l s m₁ m₂ r → ReadAs l s m m₂ r
   sheet-read m₂ r x = record {
     answered = x .answered;
-    rest = x .rest ∙ ap (drop (l .coils)) e ∙ drop-at (replicate (l .coils) 0) (drop (l .coils) m) (l .coils) (length-replicate (l .coils) 0);
+    rest = x .rest ∙ ap (drop (l .coils)) e ∙ fresh-rest (l .coils) m;
     long = x .long ∙ long₁;
   }
 

@@ -80,18 +80,6 @@ pub enum SheetAnswer {
     Bad { no: u8, place: usize },
 }
 
-// The first `n` places are zero, the others as they were.
-fn clear(marks: &mut [u16], n: usize)
-    requires { ⌜ n ≤ length (now marks) ⌝ }
-    ensures { λ _. ⌜ now (marks .exit) ≡ replicate n 0 ++ drop n (now (marks .entry)) ⌝ }
-{
-    let mut i: usize = 0;
-    while i < n {
-        marks[i] = 0;
-        i += 1;
-    }
-}
-
 // END is the last byte, else 11.
 fn ended(s: &[u8], d: Kept) -> SheetAnswer
     requires { ⌜ d .at < length (now s) ⌝ }
@@ -153,7 +141,7 @@ pub fn read_sheet(l: Limits, s: &[u8], marks: &mut [u16]) -> SheetAnswer
     ensures { λ r. ⌜ ReadAs l (now (s .entry)) (now (marks .entry)) (now (marks .exit)) r ⌝ }
 {
     let n = l.coils;
-    clear(marks, n);
+    base::clear(marks, n);
     read_records(l, s, marks)
 }
 

@@ -4,7 +4,7 @@ use Rattle.sheets.proofs.read_sheet.Statement.{statement}
 use Rattle.sheets.proofs.read_sheet.Tie as tie
 use Rattle.sheets.proofs.read_sheet.Reads as reads
 use Rattle.sheets.proofs.read_sheet.Lts as lts
-use Rattle.sheets.proofs.clear.Reads as clear-reads
+use Rattle.base.proofs.clear.Reads as clear-reads
 use Rattle.sheets.proofs.read_records.Reads as read-records-reads
 
 clear-requires : tie.Need-clear-requires
