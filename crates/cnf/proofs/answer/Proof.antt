@@ -2,10 +2,6 @@ use borrow.Author.Needs.{needs}
 use Rattle.loading.proofs.FillLaws.{loaded}
 use Rattle.cnf.proofs.answer.Statement.{statement}
 use Rattle.cnf.proofs.answer.Tie as tie
-use Rattle.cnf.proofs.answer.Reads as reads
-use Rattle.cnf.proofs.answer.Lts as lts
-use Rattle.cnf.proofs.say_set.Reads as say-set-reads
-use Rattle.cnf.proofs.say_unreadable.Reads as say-unreadable-reads
 
 enum-known-a : tie.Need-enum-known-a
 enum-known-a c = search needs

@@ -2,10 +2,6 @@ use borrow.Author.Needs.{needs}
 use Rattle.cnf.proofs.SetLaws.{count-variables·cases}
 use Rattle.cnf.proofs.count_variables.Statement.{statement}
 use Rattle.cnf.proofs.count_variables.Tie as tie
-use Rattle.cnf.proofs.count_variables.Reads as reads
-use Rattle.cnf.proofs.count_variables.Lts as lts
-use Rattle.dimacs.proofs.last_variable.Reads as last-variable-reads
-use Rattle.files.proofs.translate_files.Reads as translate-files-reads
 
 translate-files-requires : tie.Need-translate-files-requires
 translate-files-requires c κs = search needs

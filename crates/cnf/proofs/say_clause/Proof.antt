@@ -2,10 +2,6 @@ use borrow.Author.Needs.{needs}
 use Rattle.writing.proofs.RoomLaws.{written}
 use Rattle.cnf.proofs.say_clause.Statement.{statement}
 use Rattle.cnf.proofs.say_clause.Tie as tie
-use Rattle.cnf.proofs.say_clause.Reads as reads
-use Rattle.cnf.proofs.say_clause.Lts as lts
-use Rattle.dimacs.proofs.write_clause.Reads as write-clause-reads
-use Rattle.io.proofs.write_all.Reads as write-all-reads
 
 slice-aggregate-write-clause : tie.Need-slice-aggregate-write-clause
 slice-aggregate-write-clause c = search needs

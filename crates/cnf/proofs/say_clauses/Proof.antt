@@ -2,10 +2,6 @@ use borrow.Author.Needs.{needs}
 use Prim.Native.Nat.{_-_, _≤_}
 use Rattle.cnf.proofs.say_clauses.Statement.{statement}
 use Rattle.cnf.proofs.say_clauses.Tie as tie
-use Rattle.cnf.proofs.say_clauses.Reads as reads
-use Rattle.cnf.proofs.say_clauses.Lts as lts
-use Rattle.cnf.proofs.say_clause.Reads as say-clause-reads
-use Rattle.cnf.proofs.say_head.Reads as say-head-reads
 
 abbrev Inv-loop : tie.InvT-loop
 Inv-loop variables clauses room k₀ k = k ≤ clauses

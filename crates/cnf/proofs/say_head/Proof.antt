@@ -2,10 +2,6 @@ use borrow.Author.Needs.{needs}
 use Rattle.writing.proofs.RoomLaws.{written}
 use Rattle.cnf.proofs.say_head.Statement.{statement}
 use Rattle.cnf.proofs.say_head.Tie as tie
-use Rattle.cnf.proofs.say_head.Reads as reads
-use Rattle.cnf.proofs.say_head.Lts as lts
-use Rattle.dimacs.proofs.write_head.Reads as write-head-reads
-use Rattle.io.proofs.write_all.Reads as write-all-reads
 
 slice-aggregate-write-head : tie.Need-slice-aggregate-write-head
 slice-aggregate-write-head c = search needs

@@ -2,10 +2,6 @@ use borrow.Author.Needs.{needs}
 use Rattle.writing.proofs.RoomLaws.{written}
 use Rattle.cnf.proofs.say_refused.Statement.{statement}
 use Rattle.cnf.proofs.say_refused.Tie as tie
-use Rattle.cnf.proofs.say_refused.Reads as reads
-use Rattle.cnf.proofs.say_refused.Lts as lts
-use Rattle.io.proofs.write_all.Reads as write-all-reads
-use Rattle.line.proofs.write_line.Reads as write-line-reads
 
 slice-aggregate-write-line : tie.Need-slice-aggregate-write-line
 slice-aggregate-write-line c = search needs

@@ -2,8 +2,6 @@ use borrow.Author.Needs.{needs}
 use Rattle.cnf.proofs.SetLaws.{set-named·cases}
 use Rattle.cnf.proofs.set_named.Statement.{statement}
 use Rattle.cnf.proofs.set_named.Tie as tie
-use Rattle.cnf.proofs.set_named.Reads as reads
-use Rattle.cnf.proofs.set_named.Lts as lts
 
 returns : tie.Need-returns
 returns c = search (needs, set-named·cases)

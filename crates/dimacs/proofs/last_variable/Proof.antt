@@ -2,9 +2,6 @@ use borrow.Author.Needs.{needs}
 use Rattle.dimacs.proofs.SetLaws.{last-variable·cases}
 use Rattle.dimacs.proofs.last_variable.Statement.{statement}
 use Rattle.dimacs.proofs.last_variable.Tie as tie
-use Rattle.dimacs.proofs.last_variable.Reads as reads
-use Rattle.dimacs.proofs.last_variable.Lts as lts
-use Rattle.dimacs.proofs.variable.Reads as variable-reads
 
 returns : tie.Need-returns
 returns c = search (needs, last-variable·cases)

@@ -2,10 +2,6 @@ use borrow.Author.Needs.{needs}
 use Rattle.dimacs.proofs.ClauseLaws.{put-clause·cases}
 use Rattle.dimacs.proofs.put_clause.Statement.{statement}
 use Rattle.dimacs.proofs.put_clause.Tie as tie
-use Rattle.dimacs.proofs.put_clause.Reads as reads
-use Rattle.dimacs.proofs.put_clause.Lts as lts
-use Rattle.dimacs.proofs.put_literals.Reads as put-literals-reads
-use Rattle.writing.proofs.put_text.Reads as put-text-reads
 
 put-literals-requires : tie.Need-put-literals-requires
 put-literals-requires c κs = search needs

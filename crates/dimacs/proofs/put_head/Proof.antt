@@ -2,9 +2,6 @@ use borrow.Author.Needs.{needs}
 use Rattle.dimacs.proofs.ClauseLaws.{head-fits}
 use Rattle.dimacs.proofs.put_head.Statement.{statement}
 use Rattle.dimacs.proofs.put_head.Tie as tie
-use Rattle.dimacs.proofs.put_head.Reads as reads
-use Rattle.dimacs.proofs.put_head.Lts as lts
-use Rattle.writing.proofs.put_pair.Reads as put-pair-reads
 
 slice-aggregate-put-pair : tie.Need-slice-aggregate-put-pair
 slice-aggregate-put-pair c = search needs

@@ -2,11 +2,6 @@ use borrow.Author.Needs.{needs}
 use Rattle.dimacs.proofs.ClauseLaws.{put-literal·cases}
 use Rattle.dimacs.proofs.put_literal.Statement.{statement}
 use Rattle.dimacs.proofs.put_literal.Tie as tie
-use Rattle.dimacs.proofs.put_literal.Reads as reads
-use Rattle.dimacs.proofs.put_literal.Lts as lts
-use Rattle.dimacs.proofs.put_negated.Reads as put-negated-reads
-use Rattle.dimacs.proofs.put_plain.Reads as put-plain-reads
-use Rattle.dimacs.proofs.variable.Reads as variable-reads
 
 returns : tie.Need-returns
 returns c = search (needs, put-literal·cases)

@@ -2,9 +2,6 @@ use borrow.Author.Needs.{needs}
 use Rattle.dimacs.proofs.ClauseLaws.{put-literals·cases}
 use Rattle.dimacs.proofs.put_literals.Statement.{statement}
 use Rattle.dimacs.proofs.put_literals.Tie as tie
-use Rattle.dimacs.proofs.put_literals.Reads as reads
-use Rattle.dimacs.proofs.put_literals.Lts as lts
-use Rattle.dimacs.proofs.put_literal.Reads as put-literal-reads
 
 put-literal-requires : tie.Need-put-literal-requires
 put-literal-requires c κs = search (needs, put-literals·cases)

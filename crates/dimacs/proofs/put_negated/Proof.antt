@@ -2,10 +2,6 @@ use borrow.Author.Needs.{needs}
 use Rattle.dimacs.proofs.ClauseLaws.{put-negated·cases}
 use Rattle.dimacs.proofs.put_negated.Statement.{statement}
 use Rattle.dimacs.proofs.put_negated.Tie as tie
-use Rattle.dimacs.proofs.put_negated.Reads as reads
-use Rattle.dimacs.proofs.put_negated.Lts as lts
-use Rattle.writing.proofs.put_byte.Reads as put-byte-reads
-use Rattle.writing.proofs.put_numbered.Reads as put-numbered-reads
 
 slice-aggregate-put-numbered : tie.Need-slice-aggregate-put-numbered
 slice-aggregate-put-numbered c = search needs

@@ -2,10 +2,6 @@ use borrow.Author.Needs.{needs}
 use Rattle.dimacs.proofs.ClauseLaws.{put-plain·cases}
 use Rattle.dimacs.proofs.put_plain.Statement.{statement}
 use Rattle.dimacs.proofs.put_plain.Tie as tie
-use Rattle.dimacs.proofs.put_plain.Reads as reads
-use Rattle.dimacs.proofs.put_plain.Lts as lts
-use Rattle.writing.proofs.put_byte.Reads as put-byte-reads
-use Rattle.writing.proofs.put_number.Reads as put-number-reads
 
 put-number-requires : tie.Need-put-number-requires
 put-number-requires c κs = search (needs, put-plain·cases)

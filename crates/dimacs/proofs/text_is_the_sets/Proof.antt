@@ -2,8 +2,6 @@ use borrow.Author.Needs.{needs}
 use Rattle.dimacs.proofs.SetLaws.{text-is-the-sets}
 use Rattle.dimacs.proofs.text_is_the_sets.Statement.{statement}
 use Rattle.dimacs.proofs.text_is_the_sets.Tie as tie
-use Rattle.dimacs.proofs.text_is_the_sets.Reads as reads
-use Rattle.dimacs.proofs.text_is_the_sets.Lts as lts
 
 returns : tie.Need-returns
 returns c = search (needs, text-is-the-sets)

@@ -2,9 +2,6 @@ use borrow.Author.Needs.{needs}
 use Rattle.writing.proofs.RoomLaws.{too-short, lined}
 use Rattle.dimacs.proofs.write_clause.Statement.{statement}
 use Rattle.dimacs.proofs.write_clause.Tie as tie
-use Rattle.dimacs.proofs.write_clause.Reads as reads
-use Rattle.dimacs.proofs.write_clause.Lts as lts
-use Rattle.dimacs.proofs.put_clause.Reads as put-clause-reads
 
 returns : tie.Need-returns
 returns c = search (needs, too-short, lined)

@@ -2,9 +2,6 @@ use borrow.Author.Needs.{needs}
 use Rattle.writing.proofs.RoomLaws.{too-short, lined}
 use Rattle.dimacs.proofs.write_head.Statement.{statement}
 use Rattle.dimacs.proofs.write_head.Tie as tie
-use Rattle.dimacs.proofs.write_head.Reads as reads
-use Rattle.dimacs.proofs.write_head.Lts as lts
-use Rattle.dimacs.proofs.put_head.Reads as put-head-reads
 
 returns : tie.Need-returns
 returns c = search (needs, too-short, lined)

@@ -2,8 +2,6 @@ use borrow.Author.Needs.{needs}
 use Rattle.files.proofs.PastLaws.{cut-is-enough}
 use Rattle.files.proofs.cut_is_enough.Statement.{statement}
 use Rattle.files.proofs.cut_is_enough.Tie as tie
-use Rattle.files.proofs.cut_is_enough.Reads as reads
-use Rattle.files.proofs.cut_is_enough.Lts as lts
 
 returns : tie.Need-returns
 returns c = search (needs, cut-is-enough)

@@ -2,9 +2,6 @@ use borrow.Author.Needs.{needs}
 use Rattle.files.proofs.FilesLaws.{judge-files·cases}
 use Rattle.files.proofs.judge_files.Statement.{statement}
 use Rattle.files.proofs.judge_files.Tie as tie
-use Rattle.files.proofs.judge_files.Reads as reads
-use Rattle.files.proofs.judge_files.Lts as lts
-use Rattle.checker.proofs.check.Reads as check-reads
 
 returns : tie.Need-returns
 returns c = search (needs, judge-files·cases)

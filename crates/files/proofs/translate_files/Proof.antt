@@ -2,9 +2,6 @@ use borrow.Author.Needs.{needs}
 use Rattle.files.proofs.FilesLaws.{translate-files·cases}
 use Rattle.files.proofs.translate_files.Statement.{statement}
 use Rattle.files.proofs.translate_files.Tie as tie
-use Rattle.files.proofs.translate_files.Reads as reads
-use Rattle.files.proofs.translate_files.Lts as lts
-use Rattle.clauses.proofs.translate.Reads as translate-reads
 
 returns : tie.Need-returns
 returns c = search (needs, translate-files·cases)

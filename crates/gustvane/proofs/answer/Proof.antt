@@ -2,10 +2,6 @@ use borrow.Author.Needs.{needs}
 use Rattle.loading.proofs.FillLaws.{loaded}
 use Rattle.gustvane.proofs.answer.Statement.{statement}
 use Rattle.gustvane.proofs.answer.Tie as tie
-use Rattle.gustvane.proofs.answer.Reads as reads
-use Rattle.gustvane.proofs.answer.Lts as lts
-use Rattle.gustvane.proofs.say_unreadable.Reads as say-unreadable-reads
-use Rattle.gustvane.proofs.say_verdict.Reads as say-verdict-reads
 
 enum-known-a : tie.Need-enum-known-a
 enum-known-a c = search needs

@@ -2,10 +2,6 @@ use borrow.Author.Needs.{needs}
 use Rattle.writing.proofs.RoomLaws.{written}
 use Rattle.gustvane.proofs.say_verdict.Statement.{statement}
 use Rattle.gustvane.proofs.say_verdict.Tie as tie
-use Rattle.gustvane.proofs.say_verdict.Reads as reads
-use Rattle.gustvane.proofs.say_verdict.Lts as lts
-use Rattle.gustvane.proofs.write_verdict.Reads as write-verdict-reads
-use Rattle.io.proofs.write_all.Reads as write-all-reads
 
 slice-aggregate-write-verdict : tie.Need-slice-aggregate-write-verdict
 slice-aggregate-write-verdict c = search needs

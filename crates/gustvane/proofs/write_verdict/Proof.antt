@@ -2,10 +2,6 @@ use borrow.Author.Needs.{needs}
 use Rattle.gustvane.proofs.ProgramLaws.{verdict}
 use Rattle.gustvane.proofs.write_verdict.Statement.{statement}
 use Rattle.gustvane.proofs.write_verdict.Tie as tie
-use Rattle.gustvane.proofs.write_verdict.Reads as reads
-use Rattle.gustvane.proofs.write_verdict.Lts as lts
-use Rattle.files.proofs.judge_files.Reads as judge-files-reads
-use Rattle.line.proofs.write_line.Reads as write-line-reads
 
 slice-aggregate-judge-files : tie.Need-slice-aggregate-judge-files
 slice-aggregate-judge-files c = search needs

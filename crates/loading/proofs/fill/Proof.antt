@@ -4,9 +4,6 @@ use lib.ListN.{length}
 use Rattle.loading.proofs.FillLaws.{Filling, fill·cases}
 use Rattle.loading.proofs.fill.Statement.{statement}
 use Rattle.loading.proofs.fill.Tie as tie
-use Rattle.loading.proofs.fill.Reads as reads
-use Rattle.loading.proofs.fill.Lts as lts
-use Rattle.loading.proofs.read_some.Reads as read-some-reads
 
 abbrev Inv-loop : tie.InvT-loop
 Inv-loop fd buf₀ done₀ buf done = Filling buf₀ buf done

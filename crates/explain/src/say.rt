@@ -1,0 +1,10 @@
+// Bytes and numbers to standard output.
+use libc::STDOUT_FILENO;
+
+pub fn words(text: &[u8]) {
+    io::write_all(STDOUT_FILENO, text);
+}
+
+pub fn number(n: usize) {
+    io::print_decimal(STDOUT_FILENO, n as u64);
+}
