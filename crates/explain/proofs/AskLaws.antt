@@ -1,11 +1,14 @@
--- The copies that the checker is asked with, and asking after each coil in turn: what is lent keeps its length.
+-- The parts of the two rooms that the checker is asked with, and asking after each coil in turn: what is lent keeps its length.
 -- Assumes nothing.
 use Prim.Native.Nat.{ℕ, _+_, _≤_, _<_}
-use mathlib.Core.Path.{_≡_, refl, _∙_}
+use mathlib.Core.Path.{_≡_, refl, subst, _∙_}
 use mathlib.Core.List.{List, [], _∷_}
 use native.Mathlib.Omega.{arith}
-use lib.ListN.{length, take, length-take}
+use lib.ListN.{length, take}
 use lib.Seq.{length-take-le}
+use Rattle.loading.specs.Loading.{Holds}
+use Rattle.loading.specs.declared.Loaded.{Loaded}
+use Rattle.loading.specs.declared.Loaded.the-variants.{Bytes}
 use Rattle.writing.specs.Room.{Put}
 
 -- the part of the probe that ends with what was put there
@@ -13,36 +16,22 @@ pub probe-part : (w w′ : List ℕ) (at : ℕ) (bs : List ℕ) (r : ℕ) → at
     → length (take r w′) ≡ r
 probe-part w w′ at bs r h p b e = length-take-le r w′ (omega (arith, p .next))
 
--- copying the front of a list into a longer one
 pub part-taken : (n : ℕ) (b : List ℕ) → n ≤ length b → length (take n b) ≡ n
 part-taken n b h = length-take-le n b h
 
--- a part is no longer than the whole
-pub part-short : (n m : ℕ) (b : List ℕ) → length b ≡ m → length (take n b) ≤ m
-part-short n m b e = rw (length-take n b) (omega arith)
+-- the part of a trace that ends with END
+module _ (w w′ : List ℕ) (at b r : ℕ) (h : at < length w) (p : Put w w′ at (b ∷ []) r) (e : length w′ ≡ length w) where
+  pub end-inside : r ≤ length w′
+  end-inside = omega (arith, p .next)
 
-module _ (src : List ℕ) (n : ℕ) (h : n ≤ length src) (w : List ℕ) where
-  module _ (k : length src + 5 ≤ length w) where
-    pub rungs-fit : 0 + length (take n src) ≤ length w
-    rungs-fit = omega (arith, part-taken n src h)
+  pub end-part : length (take r w′) ≡ r
+  end-part = length-take-le r w′ end-inside
 
-    pub rungs-end : (w′ : List ℕ) (r : ℕ) → length w′ ≡ length w → Put w w′ 0 (take n src) r → r + 5 ≤ length w′
-    rungs-end w′ r e p = omega (arith, part-taken n src h, p .next)
+pub ruleset ask·cases = (end-inside, end-part)
 
-  module _ (k : length src < length w) where
-    pub scans-fit : 0 + length (take n src) ≤ length w
-    scans-fit = omega (arith, part-taken n src h)
-
-    module _ (w₁ : List ℕ) (r : ℕ) (e : length w₁ ≡ length w) (p : Put w w₁ 0 (take n src) r) where
-      pub end-fits : r < length w₁
-      end-fits = omega (arith, part-taken n src h, p .next)
-
-      pub scans-end : (w₂ : List ℕ) (b q : ℕ) → length w₂ ≡ length w₁ → Put w₁ w₂ r (b ∷ []) q → q ≤ length w₂
-      scans-end w₂ b q f t = omega (arith, part-taken n src h, p .next, t .next)
-
-pub ruleset copy-rungs·cases = (part-taken, rungs-fit, rungs-end)
-
-pub ruleset copy-scans·cases = (part-taken, scans-fit, end-fits, scans-end)
+-- what was read lies within its room
+pub loaded-inside : (b : List ℕ) (n : ℕ) (r : Loaded) → r ≡ Bytes n → Holds b 0 r → n ≤ length b
+loaded-inside b n r e h = let k : 0 + n ≤ length b = subst (Holds b 0) e h in omega arith
 
 pub record Asking (probe₀ probe work₀ work : List ℕ) (coils c n : ℕ) : Type 0 where
   pub long : length probe ≡ length probe₀

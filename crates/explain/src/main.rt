@@ -10,7 +10,7 @@ use line::ROOM;
 use loading::Loaded;
 use rules::Answer;
 ghost use mathlib.Core.Path.{_≡_};
-ghost use Prim.Native.Nat.{_+_, _≤_, _<_};
+ghost use Prim.Native.Nat.{_+_, _≤_};
 ghost use lib.ListN.{length};
 ghost use Rattle.files.specs.Files.{baseBounds};
 ghost use Rattle.loading.specs.Loading.{Holds};
@@ -43,53 +43,37 @@ fn say_refused(sheet: &[u8], certificate: &[u8], no: u8, place: usize) {
     }
 }
 
-// What an answer means. The probe and the trace are room in which the checker is asked again.
+// What an answer means, of the sheet in the first n bytes of `sheet` and the certificate in the first m of `certificate`.
 fn say_meaning(
     answer: Answer,
-    sheet: &[u8],
-    certificate: &[u8],
-    probe: &mut [u8],
-    trace: &mut [u8],
+    sheet: &mut [u8],
+    n: usize,
+    certificate: &mut [u8],
+    m: usize,
     work: &mut [u16],
 )
-    requires { ⌜ length (now sheet) + 5 ≤ length (now probe) ⌝ }
-    requires { ⌜ length (now certificate) < length (now trace) ⌝ }
+    requires { ⌜ n ≤ length (now sheet) ⌝ }
+    requires { ⌜ m ≤ length (now certificate) ⌝ }
 {
     match answer {
         Answer::Accepted => reasons::accepted(),
-        Answer::Confirmed { scan } => traces::confirmed(
-            sheet,
-            certificate,
-            scan,
-            probe,
-            trace,
-            work,
-        ),
-        Answer::Refused { no, place } => say_refused(sheet, certificate, no, place),
+        Answer::Confirmed { scan } => traces::confirmed(sheet, n, certificate, m, scan, work),
+        Answer::Refused { no, place } => say_refused(&sheet[..n], &certificate[..m], no, place),
     }
 }
 
-fn explain(sheet: &[u8], certificate: &[u8])
-    requires { ⌜ length (now sheet) ≤ baseBounds .sheet + 1 ⌝ }
-    requires { ⌜ length (now certificate) ≤ baseBounds .certificate + 1 ⌝ }
+// The line, and what it means.
+fn explain(sheet: &mut [u8], n: usize, certificate: &mut [u8], m: usize, work: &mut [u16])
+    requires { ⌜ n ≤ length (now sheet) ⌝ }
+    requires { ⌜ m ≤ length (now certificate) ⌝ }
 {
-    let mut probe = [0u8; SHEET + 6];
-    let mut trace = [0u8; CERTIFICATE + 2];
-    let mut work = [0u16; 32768];
-    let answer = files::judge_files(sheet, certificate, &mut work);
+    let answer = files::judge_files(&sheet[..n], &certificate[..m], work);
     say_line(answer);
-    say_meaning(
-        answer,
-        sheet,
-        certificate,
-        &mut probe,
-        &mut trace,
-        &mut work,
-    );
+    say_meaning(answer, sheet, n, certificate, m, work);
 }
 
 // What was read of the two files, in rooms that hold one byte past each bound.
-fn answer(a: Loaded, sheet: &[u8], b: Loaded, certificate: &[u8])
+fn answer(a: Loaded, sheet: &mut [u8], b: Loaded, certificate: &mut [u8])
     requires { ⌜ Holds (now sheet) 0 a ⌝ }
     requires { ⌜ Holds (now certificate) 0 b ⌝ }
     requires { ⌜ length (now sheet) ≡ baseBounds .sheet + 1 ⌝ }
@@ -103,7 +87,8 @@ fn answer(a: Loaded, sheet: &[u8], b: Loaded, certificate: &[u8])
         say_unreadable();
         return;
     };
-    explain(&sheet[..n], &certificate[..m]);
+    let mut work = [0u16; 32768];
+    explain(sheet, n, certificate, m, &mut work);
 }
 
 fn main() {
@@ -111,5 +96,5 @@ fn main() {
     let mut certificate = [0u8; CERTIFICATE + 1];
     let a = loading::load(1, &mut sheet);
     let b = loading::load(2, &mut certificate);
-    answer(a, &sheet, b, &certificate);
+    answer(a, &mut sheet, b, &mut certificate);
 }

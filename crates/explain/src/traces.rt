@@ -102,41 +102,38 @@ fn condition_at(s: &[u8]) -> usize
     spots::past(s, 1, 0x01)
 }
 
-// The sheet's bytes up to its condition, copied; the answer is how many.
-fn copy_rungs(sheet: &[u8], probe: &mut [u8]) -> usize
-    requires { ⌜ length (now sheet) + 5 ≤ length (now probe) ⌝ }
-    ensures { λ r. ⌜ r + 5 ≤ length (now (probe .exit)) ⌝ }
-{
-    let from = condition_at(sheet);
-    writing::put_text(probe, 0, &sheet[..from])
-}
-
-// The trace's bytes up to the end of a scan, copied, and END; the answer is how many.
-fn copy_scans(c: &[u8], scan: usize, trace: &mut [u8]) -> usize
-    requires { ⌜ length (now c) < length (now trace) ⌝ }
-    ensures { λ r. ⌜ r ≤ length (now (trace .exit)) ⌝ }
-{
-    let upto = spots::past(c, scan, 0x62);
-    let last = writing::put_text(trace, 0, &c[..upto]);
-    writing::put_byte(trace, last, 0x2F)
+// The coils that are on at the end of a trace's first `upto` bytes, and how many. The condition, at a place of the sheet, and what
+// follows those bytes are overwritten.
+fn ask(sheet: &mut [u8], at: usize, c: &mut [u8], upto: usize, work: &mut [u16]) -> usize {
+    if sheet.len() <= at {
+        return 0;
+    }
+    if sheet.len() - at < 5 {
+        return 0;
+    }
+    if c.len() <= upto {
+        return 0;
+    }
+    let coils = records::number_at(sheet, 0, 3);
+    let end = writing::put_byte(c, upto, 0x2F);
+    say_coils(coils, sheet, at, &c[..end], work)
 }
 
 // The coils that are on after a scan, and how many.
 fn say_after(
-    sheet: &[u8],
-    c: &[u8],
+    sheet: &mut [u8],
+    n: usize,
+    c: &mut [u8],
+    m: usize,
     scan: usize,
-    probe: &mut [u8],
-    trace: &mut [u8],
     work: &mut [u16],
 ) -> usize
-    requires { ⌜ length (now sheet) + 5 ≤ length (now probe) ⌝ }
-    requires { ⌜ length (now c) < length (now trace) ⌝ }
+    requires { ⌜ n ≤ length (now sheet) ⌝ }
+    requires { ⌜ m ≤ length (now c) ⌝ }
 {
-    let from = copy_rungs(sheet, probe);
-    let end = copy_scans(c, scan, trace);
-    let coils = records::number_at(sheet, 0, 3);
-    say_coils(coils, probe, from, &trace[..end], work)
+    let at = condition_at(&sheet[..n]);
+    let upto = spots::past(&c[..m], scan, 0x62);
+    ask(sheet, at, c, upto, work)
 }
 
 fn none_of(n: usize) {
@@ -156,25 +153,21 @@ fn scan_at(c: &[u8], scan: usize) -> usize
     spots::past(c, scan - 1, 0x62)
 }
 
-// The first broken scan of a confirmed trace.
-pub fn confirmed(
-    sheet: &[u8],
-    c: &[u8],
-    scan: usize,
-    probe: &mut [u8],
-    trace: &mut [u8],
-    work: &mut [u16],
-)
-    requires { ⌜ length (now sheet) + 5 ≤ length (now probe) ⌝ }
-    requires { ⌜ length (now c) < length (now trace) ⌝ }
+// The inputs that are on in a scan, and how many.
+fn say_scan(c: &[u8], scan: usize) -> usize {
+    let from = scan_at(c, scan);
+    say_inputs(c, from)
+}
+
+// The first broken scan of a confirmed trace, which stands in the first m bytes of `c`, of the sheet in the first n of `sheet`.
+pub fn confirmed(sheet: &mut [u8], n: usize, c: &mut [u8], m: usize, scan: usize, work: &mut [u16])
+    requires { ⌜ n ≤ length (now sheet) ⌝ }
+    requires { ⌜ m ≤ length (now c) ⌝ }
 {
     say::words(
         b"The trace breaks the condition, and this is the first scan after which it is false.\nInputs on in this scan:",
     );
-    let from = scan_at(c, scan);
-    let n = say_inputs(c, from);
-    none_of(n);
+    none_of(say_scan(&c[..m], scan));
     say::words(b"Coils on after it:");
-    let m = say_after(sheet, c, scan, probe, trace, work);
-    none_of(m);
+    none_of(say_after(sheet, n, c, m, scan, work));
 }

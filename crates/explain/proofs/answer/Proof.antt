@@ -1,6 +1,5 @@
 use borrow.Author.Needs.{needs}
-use Rattle.loading.proofs.FillLaws.{loaded}
-use Rattle.explain.proofs.AskLaws.{part-short}
+use Rattle.explain.proofs.AskLaws.{loaded-inside}
 use Rattle.explain.proofs.answer.Statement.{statement}
 use Rattle.explain.proofs.answer.Tie as tie
 
@@ -29,13 +28,16 @@ returns-2 : tie.Need-returns-2
 returns-2 c = search needs
 
 slice-aggregate-explain : tie.Need-slice-aggregate-explain
-slice-aggregate-explain c = search (needs, loaded, part-short)
-
-slice-aggregate-explain-2 : tie.Need-slice-aggregate-explain-2
-slice-aggregate-explain-2 c = search (needs, loaded, part-short)
+slice-aggregate-explain c = search needs
 
 explain-requires : tie.Need-explain-requires
-explain-requires c κs = search (needs, loaded, part-short)
+explain-requires c κs = search (needs, loaded-inside)
+
+same-length : tie.Need-same-length
+same-length c = search needs
+
+same-length-2 : tie.Need-same-length-2
+same-length-2 c = search needs
 
 returns-3 : tie.Need-returns-3
 returns-3 c = search needs
@@ -53,6 +55,7 @@ answer-spec =
     say-unreadable-requires-2
     returns-2
     slice-aggregate-explain
-    slice-aggregate-explain-2
     explain-requires
+    same-length
+    same-length-2
     returns-3)

@@ -3,23 +3,26 @@ use Rattle.explain.proofs.AskLaws.{part-taken}
 use Rattle.explain.proofs.traces.say_after.Statement.{statement}
 use Rattle.explain.proofs.traces.say_after.Tie as tie
 
-copy-rungs-requires : tie.Need-copy-rungs-requires
-copy-rungs-requires c κs = search needs
+slice-reshare-prefix-condition-at : tie.Need-slice-reshare-prefix-condition-at
+slice-reshare-prefix-condition-at c = search needs
 
-copy-scans-requires : tie.Need-copy-scans-requires
-copy-scans-requires c κs = search needs
+slice-aggregate-condition-at : tie.Need-slice-aggregate-condition-at
+slice-aggregate-condition-at c = search (needs, part-taken)
 
-number-at-requires : tie.Need-number-at-requires
-number-at-requires c κs = search needs
+condition-at-requires : tie.Need-condition-at-requires
+condition-at-requires c κs = search needs
 
-slice-reshare-prefix-say-coils : tie.Need-slice-reshare-prefix-say-coils
-slice-reshare-prefix-say-coils c = search needs
+slice-reshare-prefix-past : tie.Need-slice-reshare-prefix-past
+slice-reshare-prefix-past c = search needs
 
-slice-aggregate-say-coils : tie.Need-slice-aggregate-say-coils
-slice-aggregate-say-coils c = search (needs, part-taken)
+slice-aggregate-past : tie.Need-slice-aggregate-past
+slice-aggregate-past c = search (needs, part-taken)
 
-say-coils-requires : tie.Need-say-coils-requires
-say-coils-requires c κs = search needs
+past-requires : tie.Need-past-requires
+past-requires c κs = search needs
+
+ask-requires : tie.Need-ask-requires
+ask-requires c κs = search needs
 
 same-length : tie.Need-same-length
 same-length c = search needs
@@ -37,12 +40,13 @@ pub say-after-spec : {M : Type 1} → statement M
 say-after-spec =
     tie.close
     (tie.spec
-    copy-rungs-requires
-    copy-scans-requires
-    number-at-requires
-    slice-reshare-prefix-say-coils
-    slice-aggregate-say-coils
-    say-coils-requires
+    slice-reshare-prefix-condition-at
+    slice-aggregate-condition-at
+    condition-at-requires
+    slice-reshare-prefix-past
+    slice-aggregate-past
+    past-requires
+    ask-requires
     same-length
     same-length-2
     same-length-3
