@@ -13,7 +13,6 @@ import sys
 ROOT = os.path.dirname(os.path.dirname(os.path.abspath(__file__)))
 CRATES = os.path.join(ROOT, "crates")
 TOKEN = re.compile(r"[^\s(){};,.«»\[\]\"@`\\]+")
-SIGNED = re.compile(r"^\s*(?:module .*|)(?:(?:abbrev|unfoldable|pub|ruleset|data|record|infix)\s+)*((?:[^\s(){};,.:=|λ→]+\s+)+)[:=(]")
 WORDS = {"abbrev", "unfoldable", "pub", "ruleset", "data", "record", "where", "use", "infix", "let", "in", "elim", "unfolding", "module", "|", "_"}
 # Named by Rattle for a goal, a statement or a step: these keep their dashes.
 MADE = {"invariant-loop", "decreases-loop"}
@@ -54,11 +53,11 @@ def defined():
             for line in f:
                 if re.match(r"\s*--|\s*use ", line):
                     continue
-                m = re.match(r"\s*(?:(?:abbrev|unfoldable|pub|ruleset|data|record)\s+)*(\S+?)\s*(?::|=|\(|\{)", line)
-                n = re.match(r"\s*(?:(?:abbrev|unfoldable|pub|ruleset|data|record)\s+)*(\S+)\s+(?::|=|\(|\{|where|$)", line)
-                for k in (m, n):
-                    if k and k.group(1) not in WORDS and re.fullmatch(r"[A-Za-z]\S*", k.group(1)) and TOKEN.fullmatch(k.group(1)):
-                        found[k.group(1)].add(os.path.relpath(path, ROOT))
+                m = re.match(r"\s*(?:(?:abbrev|unfoldable|pub)\s+)*((?:[^\s(){};,.:=|λ→]+\s+)*[^\s(){};,.:=|λ→]+)\s*:(?:\s|$)", line)
+                n = re.match(r"\s*(?:pub\s+)?(?:ruleset|data|record)\s+([^\s(){};,.:=]+)", line)
+                for name in (m.group(1).split() if m else []) + ([n.group(1)] if n else []):
+                    if name not in WORDS and re.fullmatch(r"[A-Za-z]\S*", name):
+                        found[name].add(os.path.relpath(path, ROOT))
     return found
 
 
@@ -80,7 +79,7 @@ def main(argv):
         print(f"falls together: {a} -> {b}")
     if "--list" in argv:
         for a, b in sorted(turn.items()):
-            print(a, b, sorted(names[a])[0])
+            print(a, b, *sorted(names.get(a, ["by hand"]))[:1])
         return 0
     if clash:
         return 1

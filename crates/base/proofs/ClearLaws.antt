@@ -4,7 +4,7 @@ use Prim.Native.Nat.{ℕ, zero, suc, ◌+◌, ◌≤◌, ◌<◌}
 use mathlib.Core.Path.{◌≡◌, refl, sym, ap, ◌∙◌}
 use mathlib.Core.List.{List, [], ◌++◌}
 use native.Mathlib.Omega.{arith}
-use lib.ListN.{length, drop, get_or, set, replicate, length_append, length-drop, length-replicate, length-set, get_or-replicate, get_or-append, get_or-eq_default}
+use lib.ListN.{length, drop, get_or, set, replicate, length-append, length-drop, length-replicate, length-set, get_or-replicate, get_or-append, get_or-eq_default}
 use lib.Seq.{drop_at, drop-length}
 use borrow.Author.Fill.{fill_none, fill_more}
 use Rattle.base.specs.Lists.{fresh}
@@ -35,7 +35,7 @@ pub ruleset clear_cases = (clear_none, clear_more, clear_all)
 
 pub fresh_length : (n : ℕ) (w : List ℕ) → n ≤ length w → length (fresh n w) ≡ length w
 unfolding fresh
-fresh_length n w h = simp (length_append, length-replicate, length-drop) (omega arith)
+fresh_length n w h = simp (length-append, length-replicate, length-drop) (omega arith)
 
 pub fresh_rest : (n : ℕ) (w : List ℕ) → drop n (fresh n w) ≡ drop n w
 unfolding fresh

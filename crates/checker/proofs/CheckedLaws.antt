@@ -5,9 +5,9 @@ use mathlib.Core.Path.{◌≡◌, refl, sym, ap, ◌∙◌, subst}
 use mathlib.Core.Bool.{Bool, true, false}
 use mathlib.Core.List.{List, [], ◌∷◌, ◌++◌}
 use native.Mathlib.Omega.{arith}
-use lib.ListN.{length, take, drop, replicate, length_append, length-drop}
+use lib.ListN.{length, take, drop, replicate, length-append, length-drop}
 use lib.Seq.{drop_at, length-take-le}
-use borrow.Author.Tests.{lt-ltb, le_ltb}
+use borrow.Author.Tests.{lt-ltb, le-ltb}
 use Rattle.base.specs.Lists.{fresh, each}
 use Rattle.rules.specs.Kind
 use Rattle.rules.specs.Record.{front}
@@ -65,7 +65,7 @@ module _ (l : Limits) (s c : List ℕ) (h : Outline) (before after stack w : Lis
     pub end_inside : end + 1 ≤ length c
     end_inside =
         let b : length c - 1 ≡ length (write_formula there.invariant) + suc (length (drop (end + 1) c)) =
-        sym (length-drop 1 c) ∙ ap length wrote.bytes ∙ length_append (write_formula there.invariant) (Kind.INVARIANT ∷ drop (end + 1) c) in
+        sym (length-drop 1 c) ∙ ap length wrote.bytes ∙ length-append (write_formula there.invariant) (Kind.INVARIANT ∷ drop (end + 1) c) in
         let p = wrote.place in
         omega arith
 
@@ -251,8 +251,8 @@ module _ (l : Limits) (b : l ≡ base_limits) (s c w : List ℕ) where
     where
       all : Checked l s c w w' r
       all = record {
-        answered = j ∙ rw (le_ltb _ _ h);
-        left = z ∙ rw (le_ltb _ _ h, drop_at x (drop l.places w) l.places (e ∙ length-take-le l.places w h));
+        answered = j ∙ rw (le-ltb _ _ h);
+        left = z ∙ rw (le-ltb _ _ h, drop_at x (drop l.places w) l.places (e ∙ length-take-le l.places w h));
       }
 
 pub ruleset check_cases = (too_short, part_taken, lent_part, checked)

@@ -5,7 +5,7 @@ use mathlib.Core.Path.{◌≡◌, refl, sym, ap, ◌∙◌, subst}
 use mathlib.Core.Bool.{false}
 use mathlib.Core.List.{List, [], ◌++◌}
 use native.Mathlib.Omega.{arith}
-use lib.ListN.{length, take, drop, length_append, length-drop, length-take}
+use lib.ListN.{length, take, drop, length-append, length-drop, length-take}
 use lib.Seq.{length-take-le}
 use Rattle.rules.specs.declared.Limits.{Limits}
 use Rattle.rules.specs.declared.Answer.{Answer}
@@ -59,7 +59,7 @@ module _ (l : Limits) (s c : List ℕ) (h : Layout) (before after stack work : L
         let p = part_long from e in
         let f = fits_part in
         let y : length x ≡ 3 * length cs + (length (take from work) - 3 * length cs) =
-        ap length (emitted.wrote ∙ emits_places (take from work) cs f) ∙ length_append (places cs) (drop (3 * length cs) (take from work))
+        ap length (emitted.wrote ∙ emits_places (take from work) cs f) ∙ length-append (places cs) (drop (3 * length cs) (take from work))
         ∙ rw (places_length cs, length-drop (3 * length cs) (take from work)) in
         omega arith
 
@@ -68,7 +68,7 @@ module _ (l : Limits) (s c : List ℕ) (h : Layout) (before after stack work : L
         let m = counted in
         let f = few in
         let y = written_long in
-        let g : length (x ++ drop from work) ≡ length x + (length work - from) = length_append x (drop from work) ∙ ap (λ (k : ℕ). length x + k) (length-drop from work) in
+        let g : length (x ++ drop from work) ≡ length x + (length work - from) = length-append x (drop from work) ∙ ap (λ (k : ℕ). length x + k) (length-drop from work) in
         let r = a.room in
         let i = room_inside in
         let b : slot_at l from (l.steps + 1) ≡ slot_at l (clause_room l) (l.steps + 1) = ap (λ (k : ℕ). slot_at l k (l.steps + 1)) e in

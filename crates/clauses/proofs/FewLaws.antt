@@ -4,7 +4,7 @@ use Prim.Native.Nat.{ℕ, ◌+◌, ◌*◌, ◌≤◌}
 use mathlib.Core.Bool.{true, false}
 use mathlib.Core.List.{List, [], ◌∷◌}
 use native.Mathlib.Omega.{arith}
-use lib.ListN.{length, length_append}
+use lib.ListN.{length, length-append}
 use Rattle.rules.specs.declared.Limits.{Limits}
 use Rattle.rules.specs.Formula.{Leaf.input, Leaf.coil, Leaf.constant, Formula, Formula.leaf, Formula.inverse, Formula.both, Formula.either, size}
 use Rattle.rules.specs.Sheet.{Rung, Sheet}
@@ -20,24 +20,24 @@ few_records vs g (leaf (input n)) = omega arith
 few_records vs g (leaf (coil n)) = omega arith
 few_records vs g (leaf (constant true)) = omega arith
 few_records vs g (leaf (constant false)) = omega arith
-few_records vs g (inverse f) = simp length_append (omega (arith, few_records vs g f))
-few_records vs g (both f h) = simp length_append (omega (arith, few_records vs g f, few_records vs (g + size f) h))
-few_records vs g (either f h) = simp length_append (omega (arith, few_records vs g f, few_records vs (g + size f) h))
+few_records vs g (inverse f) = simp length-append (omega (arith, few_records vs g f))
+few_records vs g (both f h) = simp length-append (omega (arith, few_records vs g f, few_records vs (g + size f) h))
+few_records vs g (either f h) = simp length-append (omega (arith, few_records vs g f, few_records vs (g + size f) h))
 
 few_in_rungs : (vs : Vars) (g : ℕ) (rs : List Rung) → 2 * length (rung_clauses vs g rs) ≤ 5 * sizes rs
 unfolding rung_clauses sizes
 few_in_rungs vs g [] = omega arith
 few_in_rungs vs g (r ∷ rs) =
-    simp length_append (omega (arith, few_records vs g r.formula, few_in_rungs (closing vs g r) (g + size r.formula) rs))
+    simp length-append (omega (arith, few_records vs g r.formula, few_in_rungs (closing vs g r) (g + size r.formula) rs))
 
 module _ (l : Limits) (t : Sheet) (inv : Formula) (s : WithinSheet l t) (i : WithinInvariant l t inv) where
   pub set_few : (w : Which) → 2 * length (clause_set t inv w) ≤ 2 * l.coils + 5 * l.records + 10 * l.invariant + 4
   unfolding clause_set
   set_few start =
-      simp (length_append, units_length)
+      simp (length-append, units_length)
       (omega (arith, few_records (before t) (before_at t) inv, s.coils_fit, i.records_fit))
   set_few keep =
-      simp length_append
+      simp length-append
       (omega (
         arith,
         few_in_rungs (before t) (rungs_at t) t.rungs,
@@ -47,7 +47,7 @@ module _ (l : Limits) (t : Sheet) (inv : Formula) (s : WithinSheet l t) (i : Wit
         i.records_fit,
       ))
   set_few safe =
-      simp length_append
+      simp length-append
       (omega (
         arith,
         few_in_rungs (before t) (rungs_at t) t.rungs,

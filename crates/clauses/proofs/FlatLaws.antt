@@ -5,7 +5,7 @@ use mathlib.Core.Path.{◌≡◌, refl}
 use mathlib.Core.Bool.{true, false}
 use mathlib.Core.List.{List, [], ◌∷◌, ◌++◌, append_assoc, append-nil}
 use native.Mathlib.Omega.{arith}
-use lib.ListN.{length, drop, length_append}
+use lib.ListN.{length, drop, length-append}
 use Rattle.rules.specs.Formula.{Leaf, Leaf.input, Leaf.coil, Leaf.constant, Formula, Formula.leaf, Formula.inverse, Formula.both, Formula.either, Entry, Entry.put, Entry.NOT, Entry.AND, Entry.OR, postfix, size, height}
 use Rattle.rules.specs.ReadFormula.{Bounds, arity}
 use Rattle.rules.specs.WriteSheet.{Names}
@@ -78,9 +78,9 @@ flat_whole vs g f = rw (append-nil (postfix f), append-nil (defining vs g f)) at
 pub postfix_size : (f : Formula) → length (postfix f) ≡ size f
 unfolding postfix size
 postfix_size (leaf x) = refl
-postfix_size (inverse f) = simp (length_append, postfix_size f)
-postfix_size (both f h) = simp (length_append, postfix_size f, postfix_size h) (omega arith)
-postfix_size (either f h) = simp (length_append, postfix_size f, postfix_size h) (omega arith)
+postfix_size (inverse f) = simp (length-append, postfix_size f)
+postfix_size (both f h) = simp (length-append, postfix_size f, postfix_size h) (omega arith)
+postfix_size (either f h) = simp (length-append, postfix_size f, postfix_size h) (omega arith)
 
 -- three clauses a record at most
 pub few_clauses : (vs : Vars) (g : ℕ) (f : Formula) → length (defining vs g f) ≤ 3 * size f
@@ -89,9 +89,9 @@ few_clauses vs g (leaf (input n)) = omega arith
 few_clauses vs g (leaf (coil n)) = omega arith
 few_clauses vs g (leaf (constant true)) = omega arith
 few_clauses vs g (leaf (constant false)) = omega arith
-few_clauses vs g (inverse f) = simp length_append (omega (arith, few_clauses vs g f))
-few_clauses vs g (both f h) = simp length_append (omega (arith, few_clauses vs g f, few_clauses vs (g + size f) h))
-few_clauses vs g (either f h) = simp length_append (omega (arith, few_clauses vs g f, few_clauses vs (g + size f) h))
+few_clauses vs g (inverse f) = simp length-append (omega (arith, few_clauses vs g f))
+few_clauses vs g (both f h) = simp length-append (omega (arith, few_clauses vs g f, few_clauses vs (g + size f) h))
+few_clauses vs g (either f h) = simp length-append (omega (arith, few_clauses vs g f, few_clauses vs (g + size f) h))
 
 -- a record finds its operands and room for its own value, and names what is there
 unfoldable pub EntryNames : Bounds → Entry → Type 0

@@ -4,7 +4,7 @@ use Prim.Native.Nat.{ℕ, ◌+◌, ◌-◌, ◌≤◌, ◌<◌}
 use mathlib.Core.Path.{◌≡◌, refl, sym, ap, ◌∙◌, subst}
 use mathlib.Core.List.{List, [], ◌∷◌, ◌++◌, append_assoc}
 use native.Mathlib.Omega.{arith}
-use lib.ListN.{length, get_or, drop, length_append, length-drop}
+use lib.ListN.{length, get_or, drop, length-append, length-drop}
 use lib.Seq.{drop-drop, drop_at}
 use mir.Val.{Fits}
 use mir.Syntax.{w16, w64}
@@ -179,7 +179,7 @@ module _ (s : List ℕ) (at : ℕ) (map : List ℕ) (base g : ℕ) (stack₀ out
 
       pub inside : place + k ≤ length s
       inside =
-          let a = sym (length-drop place s) ∙ ap length here ∙ length_append (write_entry o.e) (each write_entry o.es ++ w.rest) in
+          let a = sym (length-drop place s) ∙ ap length here ∙ length-append (write_entry o.e) (each write_entry o.es ++ w.rest) in
           omega (arith, k_is, some_bytes o.e)
 
       pub place_fits : length s < 18446744073709551616 → Fits w64 (place + k)
@@ -221,9 +221,9 @@ module _ (s : List ℕ) (at : ℕ) (map : List ℕ) (base g : ℕ) (stack₀ out
             small = λ j z. o.put.small j (omega arith);
             sound = subst (λ (z : ℕ). Sound w.bounds z o.es) (sym a) y.1;
             bytes = there;
-            place_is = omega (arith, simp length_append at l, k_is);
+            place_is = omega (arith, simp length-append at l, k_is);
             next_is = counted;
-            count_is = ap (λ (z : List ℕ). m + length (after z)) x ∙ omega (arith, simp length_append at u);
+            count_is = ap (λ (z : List ℕ). m + length (after z)) x ∙ omega (arith, simp length-append at u);
             out_is = (λ i. emits (o.put.wrote i) (b i) (after (x i))) ∙ sym (emits_append out count cs (after (next ∷ drop (arity o.e) st))) ∙ v;
           }
 

@@ -5,7 +5,7 @@ use mathlib.Core.Path.{◌≡◌, ap₂, ◌∙◌, subst}
 use mathlib.Core.Bool.{true, false}
 use mathlib.Core.List.{List, ◌++◌, append_assoc}
 use native.Mathlib.Omega.{arith}
-use lib.ListN.{length, length_append}
+use lib.ListN.{length, length-append}
 use Rattle.base.specs.Lists.{each}
 use Rattle.rules.specs.declared.Limits.{Limits}
 use Rattle.rules.specs.Formula.{Formula, size}
@@ -87,7 +87,7 @@ module _ (s c : List ℕ) (h : Layout) (before after stack : List ℕ) (p : SetA
         unfolding cs
         formed₂ =
             let k : l.coils ≤ length after₁ = omega (arith, v.after_wide) in
-            let d = simp length_append at written₁.n_is in
+            let d = simp length-append at written₁.n_is in
             invariant_formed l s c h before after stack t inv rest v after₁ stack₃
             (after_small l s c h before after stack t inv rest v p.after_numbered 0 (omega arith) out after₁ out₁ r x)
             k

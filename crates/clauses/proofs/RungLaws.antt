@@ -5,7 +5,7 @@ use mathlib.Core.Path.{◌≡◌, refl, sym, ap, ◌∙◌, fun_ext}
 use mathlib.Core.Bool.{Bool, true, false}
 use mathlib.Core.List.{List, [], ◌∷◌, ◌++◌, append_assoc}
 use native.Mathlib.Omega.{arith}
-use lib.ListN.{length, get_or, drop, set, length_append, length-drop, length-set}
+use lib.ListN.{length, get_or, drop, set, length-append, length-drop, length-set}
 use lib.Seq.{drop-drop, drop_at, get_or-set_same, get_or-set_other}
 use lib.Dec.{eqb}
 use borrow.Author.Tests.{eqb-true, eqb-false}
@@ -206,9 +206,9 @@ module _ (s : List ℕ) (at rungs : ℕ) (map₀ : List ℕ) (base g : ℕ) (sta
             named = a.1;
             small = small_set map x.coil (r.g - 1) coil_in (omega (arith, d.g_is, formed.numbered)) w.small;
             few = omega (arith, d.n_is, few_clauses vs next x.formula);
-            place_is = omega (arith, simp length_append at l, d.at_is);
+            place_is = omega (arith, simp length-append at l, d.at_is);
             next_is = omega (arith, d.g_is);
-            count_is = ap (λ (z : List Clause). r.n + length z) q ∙ omega (arith, simp length_append at u, d.n_is);
+            count_is = ap (λ (z : List Clause). r.n + length z) q ∙ omega (arith, simp length-append at u, d.n_is);
             out_is = (λ i. emits (d.out_is i) (d.n_is i) (q i)) ∙ sym (emits_append out count ds es) ∙ v;
             map_is = (λ i. after_rungs (us i) (d.g_is i) rs) ∙ (rw is at w.map_is);
           }

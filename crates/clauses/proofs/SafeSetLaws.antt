@@ -5,7 +5,7 @@ use mathlib.Core.Path.{◌≡◌, ap, ap₂, ◌∙◌, subst}
 use mathlib.Core.Bool.{true, false}
 use mathlib.Core.List.{List, ◌++◌, append_assoc}
 use native.Mathlib.Omega.{arith}
-use lib.ListN.{length, length_append}
+use lib.ListN.{length, length-append}
 use Rattle.base.specs.Lists.{each}
 use Rattle.rules.specs.declared.Limits.{Limits}
 use Rattle.rules.specs.Formula.{Formula, size}
@@ -109,7 +109,7 @@ module _ (s c : List ℕ) (h : Layout) (before after stack : List ℕ) (p : SetA
           let l = p.limits in
           let t = p.sheet in
           let inv = p.invariant in
-          let d = simp length_append at (written₂ l t inv p.rest p.given).n_is in
+          let d = simp length-append at (written₂ l t inv p.rest p.given).n_is in
           let k : q.g - 1 < 32768 = omega (arith, q_is l t inv p.rest p.given, room l t inv p.rest p.given) in
           record {
             few = omega (arith, few₁ l t inv p.rest p.given, few_clauses (before_vars t) (before_at t) inv, room l t inv p.rest p.given);

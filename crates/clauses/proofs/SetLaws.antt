@@ -5,7 +5,7 @@ use mathlib.Core.Path.{◌≡◌, refl, sym, ap, ap₂, ◌∙◌, subst}
 use mathlib.Core.Bool.{false}
 use mathlib.Core.List.{List, [], ◌∷◌, ◌++◌}
 use native.Mathlib.Omega.{arith}
-use lib.ListN.{length, length_append}
+use lib.ListN.{length, length-append}
 use Rattle.rules.specs.declared.Limits.{Limits}
 use Rattle.rules.specs.Formula.{Formula, size}
 use Rattle.rules.specs.Sheet.{Start, Rung, Sheet}
@@ -35,13 +35,13 @@ pub few_rungs : (vs : Vars) (g : ℕ) (rs : List Rung) → length (rung_clauses 
 unfolding rung_clauses sizes
 few_rungs vs g [] = omega arith
 few_rungs vs g (r ∷ rs) =
-    rw length_append (omega (arith, few_clauses vs g r.formula, few_rungs (closing vs g r) (g + size r.formula) rs))
+    rw length-append (omega (arith, few_clauses vs g r.formula, few_rungs (closing vs g r) (g + size r.formula) rs))
 
 -- clauses, then more
 pub next : {w w₁ w₂ : List ℕ} {n m k : ℕ} (cs ds : List Clause) → Emitted w n cs w₁ m → Emitted w₁ m ds w₂ k → Emitted w n (cs ++ ds) w₂ k
 next {w} {w₁} {w₂} {n} {m} {k} cs ds a b = record {
   wrote = b.wrote ∙ (λ i. emits (a.wrote i) (a.counted i) ds) ∙ sym (emits_append w n cs ds);
-  counted = rw length_append (omega (arith, a.counted, b.counted));
+  counted = rw length-append (omega (arith, a.counted, b.counted));
 }
 
 pub emitted : {at g n bytes records : ℕ} {cs : List Clause} {out out' : List ℕ} {r : Wrote} → Written at g n bytes records cs out out' r → Emitted out n cs out' r.n

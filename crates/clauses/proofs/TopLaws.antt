@@ -5,7 +5,7 @@ use mathlib.Core.Path.{◌≡◌, refl, sym, ap, ◌∙◌}
 use mathlib.Core.Bool.{Bool, true, false}
 use mathlib.Core.List.{List, ◌++◌}
 use native.Mathlib.Omega.{arith}
-use lib.ListN.{length, get_or, set, length_append, length-set}
+use lib.ListN.{length, get_or, set, length-append, length-set}
 use lib.Seq.{get_or-set_same, get_or-set_other}
 use lib.Dec.{eqb}
 use borrow.Author.Tests.{eqb-true, eqb-false}
@@ -81,7 +81,7 @@ module _ (s : List ℕ) (at : ℕ) (map : List ℕ) (base g : ℕ) (stack out : 
           record {
             at_is = y.at_is;
             g_is = y.g_is;
-            n_is = rw length_append (omega (arith, e.counted, y.n_is));
+            n_is = rw length-append (omega (arith, e.counted, y.n_is));
             out_is = e.wrote ∙ (λ i. emits (y.out_is i) (y.n_is i) (signed on (t i))) ∙ sym (emits_append out n cs (signed on (top g f)));
           }
 

@@ -7,7 +7,7 @@ use mathlib.Core.List.{List, [], ◌∷◌}
 use native.Mathlib.Omega.{arith}
 use lib.ListN.{length, get_or, drop}
 use lib.Dec.{eqb}
-use borrow.Author.Tests.{lt-ltb, le_ltb, eq-eqb, ne_eqb, eqb-true, eqb-false}
+use borrow.Author.Tests.{lt-ltb, le-ltb, eq-eqb, ne_eqb, eqb-true, eqb-false}
 use mir.Val.{Fits}
 use mir.Syntax.{w8}
 use Rattle.base.specs.Lists.{each}
@@ -69,7 +69,7 @@ module _ (set : ℕ) (s c : List ℕ) (h : Layout) where
             let cs : List Clause = clause_set t inv w in
             let n : count ≡ length cs = d.of w e l t inv rest v in
             let i : 3 * length cs ≤ length room = omega arith in
-            rw (le_ltb _ _ i) (record { answered = ap Clauses n; left = (f.of w e l t inv rest v).wrote ∙ emits_places room cs i })
+            rw (le-ltb _ _ i) (record { answered = ap Clauses n; left = (f.of w e l t inv rest v).wrote ∙ emits_places room cs i })
 
 pub ruleset write_set_cases = (set_placed, set_counted, too_small, all_placed)
 

@@ -6,7 +6,7 @@ use mathlib.Core.Bool.{Bool, true, false}
 use mathlib.Core.List.{List, [], ◌∷◌, ◌++◌, append-nil, append_assoc}
 use native.Mathlib.Nat.{add-zero}
 use native.Mathlib.Omega.{arith}
-use lib.ListN.{length, take, length_append}
+use lib.ListN.{length, take, length-append}
 use lib.Seq.{paste-zero}
 use lib.Dec.{eqb}
 use borrow.Author.Tests.{eq-eqb, ne_eqb, eqb-true, eqb-false}
@@ -48,7 +48,7 @@ module _ (x : Lit) (text : List ℕ) (e : literal_text x ≡ text) where
   whole = append-nil (literal_text x ++ space) ∙ ap (λ (t : List ℕ). t ++ space) e
 
   long : length (literals_text (x ∷ [])) ≡ length text + 1
-  long = ap length whole ∙ length_append text space
+  long = ap length whole ∙ length-append text space
 
   module _ (w : List ℕ) (at : ℕ) (h : at + length (literals_text (x ∷ [])) ≤ length w) where
     text_fits : at + length text ≤ length w
@@ -151,11 +151,11 @@ module _ (w : List ℕ) (h : enough ≤ length w) (x y z : ℕ) (f : Fits w16 x)
       ∙ sym (append_assoc (literals_text (unplace x)) (literals_text (unplace y)) (literals_text (unplace z)))
 
   two_short : length (literals_text (unplace x) ++ literals_text (unplace y)) ≤ 14
-  two_short = omega (arith, length_append (literals_text (unplace x)) (literals_text (unplace y)), literal_short x f, literal_short y g)
+  two_short = omega (arith, length-append (literals_text (unplace x)) (literals_text (unplace y)), literal_short x f, literal_short y g)
 
   three_short : length (literals_text (unplace x ++ (unplace y ++ unplace z))) ≤ 21
   three_short =
-      omega (arith, ap length three, length_append (literals_text (unplace x) ++ literals_text (unplace y)) (literals_text (unplace z)), two_short, literal_short z k)
+      omega (arith, ap length three, length-append (literals_text (unplace x) ++ literals_text (unplace y)) (literals_text (unplace z)), two_short, literal_short z k)
 
   module _ (w₁ : List ℕ) (a : ℕ) (p : Put w w₁ 0 (literals_text (unplace x)) a) where
     pub y_fits : length w₁ ≡ length w → a + length (literals_text (unplace y)) ≤ length w₁

@@ -5,7 +5,7 @@ use mathlib.Core.Path.{◌≡◌, refl, ap}
 use mathlib.Core.Bool.{true, false}
 use mathlib.Core.List.{List, [], ◌∷◌, ◌++◌}
 use native.Mathlib.Omega.{arith}
-use lib.ListN.{length, length_append}
+use lib.ListN.{length, length-append}
 use Rattle.rules.specs.Head.{base_limits}
 use Rattle.rules.specs.Formula.{Leaf.input, Leaf.coil, Leaf.constant, Formula, Formula.leaf, Formula.inverse, Formula.both, Formula.either, size}
 use Rattle.rules.specs.Sheet.{Start, Rung, Sheet}
@@ -17,7 +17,7 @@ use Rattle.dimacs.specs.Dimacs.{largest_set}
 
 -- lengths of joined lists
 two : (a b : List Clause) → length (a ++ b) ≡ length a + length b
-two a b = length_append a b
+two a b = length-append a b
 
 formula_few : (vs : Vars) (g : ℕ) (f : Formula) → length (defining vs g f) ≤ 3 * size f
 unfolding defining leaf_clauses size

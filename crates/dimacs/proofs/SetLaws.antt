@@ -7,7 +7,7 @@ use mathlib.Core.List.{List, [], ◌∷◌, ◌++◌, append_assoc}
 use native.Mathlib.Nat.{add-zero}
 use native.Mathlib.Numerals.{add-one}
 use native.Mathlib.Omega.{arith}
-use lib.ListN.{length, get_or, length_append}
+use lib.ListN.{length, get_or, length-append}
 use lib.Seq.{get_or-append-add}
 use borrow.Author.Tests.{le-leb, lt-leb}
 use Rattle.base.specs.Lists.{All, each}
@@ -48,7 +48,7 @@ lines_from n [] rest pre k e h = refl
 lines_from n (c ∷ cs) rest pre k e h =
     let here : clause_in (pre ++ (place_of c 0 ∷ place_of c 1 ∷ place_of c 2 ∷ (places cs ++ rest))) k ≡ c = clause_there n pre k c (places cs ++ rest) e h.0 in
     let three : List ℕ = place_of c 0 ∷ place_of c 1 ∷ place_of c 2 ∷ [] in
-    let onward = lines_from n cs rest (pre ++ three) (k + 1) (length_append pre three ∙ omega arith) h.1 in
+    let onward = lines_from n cs rest (pre ++ three) (k + 1) (length-append pre three ∙ omega arith) h.1 in
     ap₂ ◌++◌ (ap clause_line here) (rw (append_assoc pre three (places cs ++ rest)) at onward)
 
 places_append : (cs ds : List Clause) → places (cs ++ ds) ≡ places cs ++ places ds
@@ -71,13 +71,13 @@ last_unit cs x rest =
     w = places (cs ++ unit x) ++ rest
 
     m : length (cs ++ unit x) ≡ length cs + 1
-    m = length_append cs (unit x)
+    m = length-append cs (unit x)
 
     split : w ≡ places cs ++ (place x ∷ 0 ∷ 0 ∷ rest)
     split = ap (λ (ps : List ℕ). ps ++ rest) (places_append cs (unit x)) ∙ append_assoc (places cs) (place x ∷ 0 ∷ 0 ∷ []) rest
 
     long : 3 * (length cs + 1) ≤ length w
-    long = omega (arith, ap length split, length_append (places cs) (place x ∷ 0 ∷ 0 ∷ rest), places_long cs)
+    long = omega (arith, ap length split, length-append (places cs) (place x ∷ 0 ∷ 0 ∷ rest), places_long cs)
 
     found : get_or w (3 * (length (cs ++ unit x) - 1)) 0 ≡ place x
     found =

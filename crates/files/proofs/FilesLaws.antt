@@ -6,7 +6,7 @@ use mathlib.Core.Bool.{true, false, ◌&&◌, ◌||◌}
 use mathlib.Core.List.{List}
 use lib.ListN.{length}
 use lib.Dec.{ltb, leb}
-use borrow.Author.Tests.{lt-ltb, le_ltb, le-leb, lt-leb}
+use borrow.Author.Tests.{lt-ltb, le-ltb, le-leb, lt-leb}
 use Rattle.rules.specs.Head.{base_limits}
 use Rattle.rules.specs.Verdict.{answer_of, Translation.withheld, written_of, room_after}
 use Rattle.rules.specs.declared.Answer.{Answer}
@@ -25,11 +25,11 @@ module _ (s c : List ℕ) where
   module _ (h : length s ≤ 4873) where
     pub certificate_over : 49218 < length c → too_long base_bounds s c ≡ true
     unfolding too_long
-    certificate_over k = rw (le_ltb _ _ h, lt-ltb _ _ k)
+    certificate_over k = rw (le-ltb _ _ h, lt-ltb _ _ k)
 
     pub both_within : length c ≤ 49218 → too_long base_bounds s c ≡ false
     unfolding too_long
-    both_within k = rw (le_ltb _ _ h, le_ltb _ _ k)
+    both_within k = rw (le-ltb _ _ h, le-ltb _ _ k)
 
   module _ (w : List ℕ) where
     pub refused_27 : too_long base_bounds s c ≡ true → Judged base_limits base_bounds s c w w (Refused 27 0)

@@ -8,7 +8,7 @@ use native.Mathlib.Omega.{arith}
 use lib.ListN.{length, take, length-take}
 use lib.Seq.{take_all}
 use lib.Dec.{ltb, leb}
-use borrow.Author.Tests.{lt-ltb, le_ltb, ltb-true, ltb-false}
+use borrow.Author.Tests.{lt-ltb, le-ltb, ltb-true, ltb-false}
 use Rattle.base.specs.Pick.{pick}
 use Rattle.rules.specs.Walk.{◌at◌}
 use Rattle.rules.specs.Verdict.{Verdict.refused, Translation, Translation.withheld}
@@ -22,7 +22,7 @@ past m xs = go (ltb m (length xs)) refl
   where
     go : (t : Bool) → ltb m (length xs) ≡ t → ltb m (length (take (m + 1) xs)) ≡ t
     go true e = lt-ltb m (length (take (m + 1) xs)) (rw (length-take (m + 1) xs) (omega (arith, ltb-true m (length xs) e)))
-    go false e = le_ltb m (length (take (m + 1) xs)) (rw (length-take (m + 1) xs) (omega (arith, ltb-false m (length xs) e)))
+    go false e = le-ltb m (length (take (m + 1) xs)) (rw (length-take (m + 1) xs) (omega (arith, ltb-false m (length xs) e)))
 
 module _ (b : Bounds) (s c : List ℕ) where
   same_long : too_long b (take (b.sheet + 1) s) (take (b.certificate + 1) c) ≡ too_long b s c

@@ -5,7 +5,7 @@ use mathlib.Core.Path.{◌≡◌, refl, sym, ap, ◌∙◌, subst}
 use mathlib.Core.Bool.{Bool, true, false, not}
 use mathlib.Core.List.{List, [], ◌∷◌, ◌++◌, append_assoc, append-nil}
 use native.Mathlib.Omega.{arith}
-use lib.ListN.{length, get_or, drop, length_append, length-drop}
+use lib.ListN.{length, get_or, drop, length-append, length-drop}
 use lib.Seq.{drop-drop, drop-append_seam}
 use lib.Dec.{eqb}
 use Rattle.base.specs.Lists.{each}
@@ -135,7 +135,7 @@ module _ (s : List ℕ) (from : ℕ) (inputs coils w₀ : List ℕ) where
       pub bytes_left : length_of part ≤ length s - at
       bytes_left =
           let x = here in
-          let l : length s - at ≡ length (write_entry x.e) + length (each write_entry x.es ++ h.rest) = sym (length-drop at s) ∙ ap length (ahead x) ∙ length_append (write_entry x.e) (each write_entry x.es ++ h.rest) in
+          let l : length s - at ≡ length (write_entry x.e) + length (each write_entry x.es ++ h.rest) = sym (length-drop at s) ∙ ap length (ahead x) ∙ length-append (write_entry x.e) (each write_entry x.es ++ h.rest) in
           let m = x.length_is in
           omega arith
 
@@ -150,7 +150,7 @@ module _ (s : List ℕ) (from : ℕ) (inputs coils w₀ : List ℕ) where
           let hr : r ≡ d - arity x.e + 1 = a.height ∙ ap (λ (y : Entry). d - arity y + 1) x.entry_is in
           let run : acts (on inputs) (on coils) (x.e ∷ x.es) (values w d) ≡ value (on inputs) (on coils) h.formula ∷ [] = subst (λ (y : List Entry). acts (on inputs) (on coils) y (values w d) ≡ value (on inputs) (on coils) h.formula ∷ []) x.is i.runs in
           let put : values w' r ≡ act (on inputs) (on coils) x.e (values w d) = a.stacked ∙ ap (λ (y : Entry). act (on inputs) (on coils) y (values w d)) x.entry_is in
-          let k : length (each write_entry i.es) ≡ length (write_entry x.e) + length (each write_entry x.es) = ap (λ (y : List Entry). length (each write_entry y)) x.is ∙ length_append (write_entry x.e) (each write_entry x.es) in
+          let k : length (each write_entry i.es) ≡ length (write_entry x.e) + length (each write_entry x.es) = ap (λ (y : List Entry). length (each write_entry y)) x.is ∙ length-append (write_entry x.e) (each write_entry x.es) in
           record {
             es = x.es;
             left = ap (λ (y : ℕ). drop y s) n ∙ sym (drop-drop (length (write_entry x.e)) at s) ∙ ap (drop (length (write_entry x.e))) (ahead x) ∙ drop-append_seam (write_entry x.e) (each write_entry x.es ++ h.rest);

@@ -5,7 +5,7 @@ use mathlib.Core.Path.{◌≡◌, refl, sym, ap, ◌∙◌, subst}
 use mathlib.Core.Bool.{Bool, true, false}
 use mathlib.Core.List.{List, [], ◌∷◌, ◌++◌, append_assoc}
 use native.Mathlib.Omega.{arith}
-use lib.ListN.{length, get_or, drop, set, length_append, length-drop, length-set}
+use lib.ListN.{length, get_or, drop, set, length-append, length-drop, length-set}
 use lib.Seq.{drop-drop, drop-append_seam}
 use Rattle.base.specs.Lists.{All, each}
 use Rattle.rules.specs.Kind
@@ -64,7 +64,7 @@ module _ (s : List ℕ) (p : ℕ) (inputs k w : List ℕ) where
     unfolding closed_rung write_rung
     ran_rung b q h =
         let i = is h in
-        let m : length (write_formula h.rung.formula ++ (Kind.RUNG ∷ two_bytes h.rung.coil)) ≡ length (write_formula h.rung.formula) + 3 = length_append (write_formula h.rung.formula) (Kind.RUNG ∷ two_bytes h.rung.coil) in
+        let m : length (write_formula h.rung.formula ++ (Kind.RUNG ∷ two_bytes h.rung.coil)) ≡ length (write_formula h.rung.formula) + 3 = length-append (write_formula h.rung.formula) (Kind.RUNG ∷ two_bytes h.rung.coil) in
         let z = i.ends in
         record { ends = omega arith; coils = rw (coil_is h, q, i.is); long = i.long }
 
@@ -158,7 +158,7 @@ module _ (s : List ℕ) (from n : ℕ) (inputs k₀ w₀ : List ℕ) where
       round k' w' at' f =
           let x = here in
           let g = f rung_here in
-          let a : length (each write_rung (t h).left) ≡ length (write_rung x.r) + length (each write_rung x.rs) = ap (λ (y : List Rung). length (each write_rung y)) x.is ∙ length_append (write_rung x.r) (each write_rung x.rs) in
+          let a : length (each write_rung (t h).left) ≡ length (write_rung x.r) + length (each write_rung x.rs) = ap (λ (y : List Rung). length (each write_rung y)) x.is ∙ length-append (write_rung x.r) (each write_rung x.rs) in
           let b : length (t h).left ≡ suc (length x.rs) = ap length x.is in
           let run : run_places inputs k (x.r ∷ x.rs) ≡ run_places inputs k₀ h.rungs = subst (λ (y : List Rung). run_places inputs k y ≡ run_places inputs k₀ h.rungs) x.is (t h).runs in
           record {

@@ -9,7 +9,7 @@ use mir.Syntax.{w8}
 use mir.Val.{Fits}
 use lib.ListN.{length, get_or}
 use lib.Dec.{ltb}
-use borrow.Author.Tests.{lt-ltb, le_ltb}
+use borrow.Author.Tests.{lt-ltb, le-ltb}
 use Rattle.rules.specs.declared.Limits.{Limits}
 use Rattle.rules.specs.Head.{base_limits}
 use Rattle.rules.specs.Walk.{◌at◌}
@@ -32,7 +32,7 @@ use Rattle.ladder.proofs.SheetBytes.{ladder_at}
 -- enough places
 module _ (l : Limits) (s inputs coils : List ℕ) (a : l.inputs ≤ length inputs) (b : l.coils ≤ length coils) where
   long_enough : short l inputs coils ≡ false
-  long_enough = rw (le_ltb _ _ a, le_ltb _ _ b)
+  long_enough = rw (le-ltb _ _ a, le-ltb _ _ b)
 
   pub answers_for : scan_of l s inputs coils ≡ answer_for inputs coils (read_sheet l s)
   unfolding scan_of

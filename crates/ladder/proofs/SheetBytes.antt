@@ -4,7 +4,7 @@ use Prim.Native.Nat.{ℕ, zero, suc, ◌+◌, ◌-◌, ◌*◌, ◌/◌, ◌≤�
 use mathlib.Core.Path.{◌≡◌, refl, sym, ap, ◌∙◌}
 use mathlib.Core.List.{List, [], ◌∷◌, ◌++◌}
 use native.Mathlib.Omega.{arith}
-use lib.ListN.{length, drop, length_append}
+use lib.ListN.{length, drop, length-append}
 use Rattle.base.specs.Lists.{All, each}
 use Rattle.rules.specs.Kind
 use Rattle.rules.specs.declared.Limits.{Limits}
@@ -22,7 +22,7 @@ use Rattle.ladder.proofs.RungLaws.{drop_front}
 pub starts_length : (xs : List Start) → length (each write_start xs) ≡ 4 * length xs
 unfolding write_start
 starts_length [] = refl
-starts_length (x ∷ xs) = let i = starts_length xs in omega (arith, length_append (write_start x) (each write_start xs))
+starts_length (x ∷ xs) = let i = starts_length xs in omega (arith, length-append (write_start x) (each write_start xs))
 
 -- what follows the head
 abbrev pub tail_of : Sheet → List ℕ

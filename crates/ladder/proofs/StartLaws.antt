@@ -5,7 +5,7 @@ use mathlib.Core.Path.{◌≡◌, refl, sym, ap, ◌∙◌, subst, fun_ext}
 use mathlib.Core.Bool.{Bool, true, false, not}
 use mathlib.Core.List.{List, [], ◌∷◌, ◌++◌, append_assoc, map}
 use native.Mathlib.Omega.{arith}
-use lib.ListN.{length, get_or, drop, set, length_append, length-drop, length-set}
+use lib.ListN.{length, get_or, drop, set, length-append, length-drop, length-set}
 use lib.Dec.{eqb}
 use borrow.Author.Tests.{eqb-true, eqb-false, eq-eqb, ne_eqb}
 use Rattle.base.specs.Pick.{pick}
@@ -92,7 +92,7 @@ module _ (s : List ℕ) (from n : ℕ) (w₀ : List ℕ) where
 
         pub start_inside : at + 4 ≤ length s
         start_inside =
-            let e : length s - at ≡ length (write_start here.x) + length (each write_start here.xs ++ h.rest) = sym (length-drop at s) ∙ ap length (ahead here) ∙ length_append (write_start here.x) _ in
+            let e : length s - at ≡ length (write_start here.x) + length (each write_start here.xs ++ h.rest) = sym (length-drop at s) ∙ ap length (ahead here) ∙ length-append (write_start here.x) _ in
             let f = four_bytes here.x in
             omega arith
 

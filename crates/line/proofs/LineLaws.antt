@@ -4,7 +4,7 @@ use Prim.Native.Nat.{ℕ, ◌+◌, ◌≤◌, ◌<◌}
 use mathlib.Core.Path.{◌≡◌}
 use mathlib.Core.List.{List, ◌++◌}
 use native.Mathlib.Omega.{arith}
-use lib.ListN.{length, length_append}
+use lib.ListN.{length, length-append}
 use mir.Facts.{Fits-widen}
 use mir.Syntax.{w8, w64}
 use mir.Val.{Fits}
@@ -22,7 +22,7 @@ use Rattle.line.specs.Line.{words_confirmed, word_refused, word_at, accepted_lin
 module _ (w : List ℕ) (h : enough ≤ length w) where
   module _ (m : ℕ) (f : Fits w64 m) where
     scan_long : length (numbered words_confirmed m) ≤ 35
-    scan_long = omega (arith, length_append words_confirmed (decimal m), digits_fit m f.fits)
+    scan_long = omega (arith, length-append words_confirmed (decimal m), digits_fit m f.fits)
 
     pub scan_fits : 0 + length (numbered words_confirmed m) ≤ length w
     scan_fits = omega (arith, scan_long)

@@ -5,7 +5,7 @@ use mathlib.Core.Path.{◌≡◌, refl, subst}
 use mathlib.Core.List.{List}
 use native.Mathlib.Omega.{arith}
 use lib.ListN.{length}
-use borrow.Author.Tests.{le_ltb}
+use borrow.Author.Tests.{le-ltb}
 use Rattle.rules.specs.declared.Limits.{Limits}
 use Rattle.rules.specs.Kind
 use Rattle.rules.specs.Walk.{Reading, Reading.stopped, Reading.marked, Reading.closed}
@@ -69,7 +69,7 @@ module _ (l : Limits) (t : Sheet) (c : List ℕ) (m : ℕ) where
       by_trace k.opened (played_judged t c m (read_scans l t c) (unplayed t) (record {
         end = k.place;
         closes = k.closes;
-        last = le_ltb (k.place + 1) (length c) (let e = k.last in omega arith);
+        last = le-ltb (k.place + 1) (length c) (let e = k.last in omega arith);
         broken_is = rw k.scans b.0;
         first_is = rw k.scans b.1;
       }))

@@ -7,7 +7,7 @@ use mathlib.Core.List.{List}
 use native.Mathlib.Omega.{arith}
 use lib.ListN.{length}
 use lib.Dec.{ltb, leb}
-use borrow.Author.Tests.{leb-true, leb-false, ltb-false, le-leb, lt-leb, le_ltb}
+use borrow.Author.Tests.{leb-true, leb-false, ltb-false, le-leb, lt-leb, le-ltb}
 use Rattle.base.specs.Pick.{pick}
 use Rattle.rules.specs.declared.Limits.{Limits}
 use Rattle.rules.specs.Certificate.{Step}
@@ -94,7 +94,7 @@ module _ (l : Limits) (cs : List Clause) (n : ℕ) (q : Step) where
       ev = and_both (has (nth cs q.first) (plain q.pivot)) (has (nth cs q.second) (negated q.pivot)) re.plainly re.negatedly
 
       ew : ltb l.width (length joint) ≡ false
-      ew = le_ltb l.width (length joint) (let k = alike_length e joint re.set rj.set like in let m = h.narrow in omega arith)
+      ew = le-ltb l.width (length joint) (let k = alike_length e joint re.set rj.set like in let m = h.narrow in omega arith)
 
       es : leb l.steps n ≡ false
       es = lt-leb l.steps n h.early

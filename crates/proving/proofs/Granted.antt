@@ -5,7 +5,7 @@ use mathlib.Core.Path.{◌≡◌, refl, ◌∙◌}
 use mathlib.Core.Bool.{Bool, true, false}
 use mathlib.Core.List.{List}
 use lib.Dec.{ltb}
-use borrow.Author.Tests.{ltb-false, le_ltb}
+use borrow.Author.Tests.{ltb-false, le-ltb}
 use Rattle.base.specs.Pick.{pick}
 use Rattle.rules.specs.declared.Limits.{Limits}
 use Rattle.rules.specs.Kind
@@ -55,7 +55,7 @@ pub record Ready (l : Limits) (s : List ℕ) (n : ℕ) : Type 0 where
 -- there the certificate settles the answer
 pub ready_judge : (l : Limits) (s c : List ℕ) (n : ℕ) (r : Ready l s n) → judge l s c n ≡ judge_opened l r.sheet c (first_record c)
 unfolding judge judge_certificate
-ready_judge l s c n r = rw (le_ltb n l.places r.room, r.read)
+ready_judge l s c n r = rw (le-ltb n l.places r.room, r.read)
 
 -- what any answer that is no refusal rests on
 pub record Grants (l : Limits) (s c : List ℕ) (n : ℕ) (v : Verdict) : Type 0 where

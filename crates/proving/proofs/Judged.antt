@@ -5,7 +5,7 @@ use mathlib.Core.Path.{◌≡◌}
 use mathlib.Core.List.{List}
 use native.Mathlib.Omega.{arith}
 use lib.ListN.{length}
-use borrow.Author.Tests.{le_ltb}
+use borrow.Author.Tests.{le-ltb}
 use Rattle.rules.specs.declared.Limits.{Limits}
 use Rattle.rules.specs.Formula.{Formula}
 use Rattle.rules.specs.Sheet.{Sheet}
@@ -40,7 +40,7 @@ module _ (l : Limits) (t : Sheet) (inv : Formula) (bs : List ℕ) (p : ℕ) wher
       let d : Certificate = record { invariant = inv; steps = h.steps } in
       let e = h.last in
       passes_judged l t inv bs (read_steps bs p) (refuting t inv start) accepted (rw h.read ((all_pass l t inv d).1 h.refute))
-      (λ g. rw (h.closes, le_ltb (h.place + 1) (length bs) (omega arith)))
+      (λ g. rw (h.closes, le-ltb (h.place + 1) (length bs) (omega arith)))
 
 pub steps_exactly : StepsExactly
 steps_exactly l t inv bs p = (λ e. passed_proves l t inv bs p (judged_passed l t inv bs (read_steps bs p) (refuting t inv start) e), proves_accepted l t inv bs p)

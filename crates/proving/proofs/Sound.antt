@@ -6,7 +6,7 @@ use mathlib.Core.Logic.{◌⊎◌, ◌⊎◌.inl, ◌⊎◌.inr}
 use mathlib.Core.Bool.{Bool, true, false, not, ◌||◌, false≢true}
 use mathlib.Core.List.{List, [], ◌∷◌, ◌++◌}
 use native.Mathlib.Omega.{arith}
-use lib.ListN.{length, get_or, length_append}
+use lib.ListN.{length, get_or, length-append}
 use Rattle.rules.specs.declared.Limits.{Limits}
 use Rattle.rules.specs.Certificate.{Step}
 use Rattle.rules.specs.Clauses.{Lit, Clause}
@@ -77,7 +77,7 @@ run_sound a l (next {cs = cs} {q = q} {e = e} r w s) h = run_sound a l s (holds_
 
 run_length : (l : Limits) {cs : List Clause} {qs : List Step} {out : List Clause} → Run l cs qs out → length out ≡ length cs + length qs
 run_length l ready = omega arith
-run_length l (next {cs = cs} {e = e} r w s) = let h = run_length l s in let k = length_append cs (e ∷ []) in omega arith
+run_length l (next {cs = cs} {e = e} r w s) = let h = run_length l s in let k = length-append cs (e ∷ []) in omega arith
 
 holds_latest : (a : Assignment) (cs : List Clause) (c : Clause) → Holds a cs → clause a c ≡ true → clause a (latest cs c) ≡ true
 unfolding latest

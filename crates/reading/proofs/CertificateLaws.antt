@@ -5,7 +5,7 @@ use mathlib.Core.Path.{◌≡◌, refl, sym, ap, ◌∙◌}
 use mathlib.Core.List.{List, [], ◌∷◌, ◌++◌, append-nil, append_assoc}
 use mathlib.Core.Logic.{⊎_elim}
 use native.Mathlib.Omega.{arith}
-use lib.ListN.{length, take, drop, length_append}
+use lib.ListN.{length, take, drop, length-append}
 use lib.Seq.{drop-append-add}
 use Rattle.base.specs.Lists.{All, each}
 use Rattle.rules.specs.declared.Limits.{Limits}
@@ -60,7 +60,7 @@ certificate_bytes d = simp append_assoc
 -- how many bytes there are past the invariant
 rest_length : (bs : List ℕ) (p : ℕ) (wf : List ℕ) → bs ≡ Kind.SAFE ∷ drop 1 bs → drop 1 bs ≡ wf ++ (Kind.INVARIANT ∷ drop (p + 1) bs) → p ≡ 1 + length wf
     → length bs ≡ p + 1 + length (drop (p + 1) bs)
-rest_length bs p wf e f g = omega (arith, ap length e, simp length_append at (ap length f))
+rest_length bs p wf e f g = omega (arith, ap length e, simp length-append at (ap length f))
 
 pub certificate_written : (l : Limits) (t : Sheet) (bs : List ℕ) (d : Certificate) → Bytes bs → ReadsCertificate l t bs d
     → WithinCertificate l t d × (write_certificate d ≡ bs)
@@ -70,7 +70,7 @@ certificate_written l t bs d b r =
     let i = invariant_written l t bs p d.invariant b r.invariant in
     let s : StepsWritten bs (p + 1) r.place (refutations d) = rw r.steps at (steps_written bs (p + 1) r.place b r.closes) in
     let whole = rest_length bs p (write_formula d.invariant) first i.bytes i.place in
-    let n : length s.left ≤ 1 = omega (arith, simp length_append at (ap length s.bytes), s.place, r.last, whole) in
+    let n : length s.left ≤ 1 = omega (arith, simp length-append at (ap length s.bytes), s.place, r.last, whole) in
     let z : s.left ≡ Kind.END ∷ [] = last_record Kind.END s.left s.ended n in (
       record { invariant_within = i.within; steps_within = steps_within d s.within },
       certificate_bytes d
@@ -117,7 +117,7 @@ certificate_back l t d w =
       steps = ap marks at_steps ∙ b.marked_first ∙ ap (λ z. refutations d ++ marks z) e ∙ append-nil (refutations d);
       place = p + 1 + length (write_steps d);
       closes = ap final at_steps ∙ b.final_same ∙ ap final e;
-      last = omega (arith, length_append wf (Kind.INVARIANT ∷ rest), length_append (write_steps d) (Kind.END ∷ []));
+      last = omega (arith, length-append wf (Kind.INVARIANT ∷ rest), length-append (write_steps d) (Kind.END ∷ []));
     })
 
 -- any bytes that are read to END are those of some certificate

@@ -5,7 +5,7 @@ use mathlib.Core.Path.{◌≡◌, refl, sym, ap, ◌∙◌}
 use mathlib.Core.Bool.{true, ◌&&◌}
 use mathlib.Core.List.{List, [], ◌∷◌, ◌++◌, map, append-nil, append_assoc, map-append}
 use native.Mathlib.Omega.{arith}
-use lib.ListN.{length, get_or, length_append}
+use lib.ListN.{length, get_or, length-append}
 use lib.Dec.{ltb, leb, eqb}
 use borrow.Author.Tests.{ltb-true, ltb-false, leb-true, leb-false}
 use Rattle.base.specs.Lists.{All, each}
@@ -257,7 +257,7 @@ module _ (l : Limits) (bs : List ℕ) (h : Bytes bs) (u : Draft) where
             once = rw map-append (once_snoc (rung_coils rs) c o.rungs.once (sym (driven_one rs c) ∙ z.0));
             named = all_snoc (λ (r : Rung). r.coil < t.sheet.coils) rs r o.rungs.named (ltb-true c t.sheet.coils x.0);
             within = all_snoc (λ (r : Rung). Fits b r.formula) rs r o.rungs.within (one_fits b (sizes rs) t.stack o.stacked y.0);
-            few = rw length_append (omega arith);
+            few = rw length-append (omega arith);
           };
           stacked = record {
             fits = tt;

@@ -6,7 +6,7 @@ use mathlib.Core.Bool.{Bool, true, false}
 use mathlib.Core.List.{List, [], ◌∷◌, ◌++◌}
 use mathlib.Core.Logic.{◌⊎◌, inl, inr}
 use native.Mathlib.Omega.{arith}
-use lib.ListN.{length, get_or, take, drop, length_append, length-take}
+use lib.ListN.{length, get_or, take, drop, length-append, length-take}
 use lib.Seq.{take-nil, drop_at, get_or-take}
 use lib.Dec.{leb, eqb}
 use borrow.Author.Tests.{le-leb, lt-leb, leb-true}
@@ -60,7 +60,7 @@ module _ (k : ℕ) (body : List ℕ) (w : Written k body) where
     unfolding record_length
     written_front =
         front_whole k ((k ∷ body) ++ rest)
-        (record { first = refl; known = w.known; inside = rw length_append (omega (arith, w.long)) })
+        (record { first = refl; known = w.known; inside = rw length-append (omega (arith, w.long)) })
 
     -- the bytes after a written record
     pub written_past : past ((k ∷ body) ++ rest) ≡ rest

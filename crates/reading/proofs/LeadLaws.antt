@@ -5,7 +5,7 @@ use mathlib.Core.Path.{◌≡◌, refl, sym, ap, ◌∙◌}
 use mathlib.Core.Bool.{true}
 use mathlib.Core.List.{List, [], ◌∷◌, ◌++◌, append_assoc}
 use native.Mathlib.Omega.{arith}
-use lib.ListN.{length, length_append}
+use lib.ListN.{length, length-append}
 use Rattle.rules.specs.Record.{one_of}
 use Rattle.rules.specs.Walk.{Move, Move.go, Move.mark, Move.done, Reading, Reading.stopped, Reading.marked, Reading.closed, Reader, move_at, reading}
 use Rattle.reading.specs.Readings.{marks, final}
@@ -36,7 +36,7 @@ module _ {S M X : Type 0} (r : Reader S M X) where
   leads_then t u v ws vs ms ns a b rest p =
       let x = a (vs ++ rest) p in
       let y = b rest (p + length ws) in
-      let e : p + length (ws ++ vs) ≡ p + length ws + length vs = rw length_append (omega arith) in
+      let e : p + length (ws ++ vs) ≡ p + length ws + length vs = rw length-append (omega arith) in
       rw (append_assoc ws vs rest, e) (record {
         marked_first = x.marked_first ∙ ap (λ (z : List M). ms ++ z) y.marked_first ∙ sym (append_assoc ms ns _);
         final_same = x.final_same ∙ y.final_same;

@@ -5,7 +5,7 @@ use mathlib.Core.Path.{◌≡◌, refl, sym, ap, ◌∙◌}
 use mathlib.Core.Bool.{Bool, true, false, ◌&&◌}
 use mathlib.Core.List.{List, [], ◌∷◌, ◌++◌, append_assoc}
 use native.Mathlib.Omega.{arith}
-use lib.ListN.{length, get_or, length_append}
+use lib.ListN.{length, get_or, length-append}
 use lib.Dec.{ltb, leb}
 use borrow.Author.Tests.{ltb-false}
 use Rattle.base.specs.Pick.{pick}
@@ -151,7 +151,7 @@ sheet_written l bs t b e =
     let a = arrived l bs t b g in
     let c = end_closes l a.state a.left t a.closes in
     let f : Finished l a.state a.passed = rw c.0 at a.held in
-    let n : length a.left ≤ 1 = omega (arith, simp length_append at (ap length a.split), a.place, g.last) in
+    let n : length a.left ≤ 1 = omega (arith, simp length-append at (ap length a.split), a.place, g.last) in
     let z : a.left ≡ Kind.END ∷ [] = last_record Kind.END a.left c.2 n in (
       rw c.1 at f.within,
       ap write_sheet (sym c.1)

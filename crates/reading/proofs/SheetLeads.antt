@@ -5,9 +5,9 @@ use mathlib.Core.Path.{◌≡◌, refl, ap, ◌∙◌}
 use mathlib.Core.Bool.{true, false}
 use mathlib.Core.List.{List, [], ◌∷◌, ◌++◌, append-nil, append_assoc, map-append}
 use native.Mathlib.Omega.{arith}
-use lib.ListN.{length, length_append}
+use lib.ListN.{length, length-append}
 use lib.Seq.{append_snoc}
-use borrow.Author.Tests.{lt-ltb, le_ltb, le-leb, lt-leb}
+use borrow.Author.Tests.{lt-ltb, le-ltb, le-leb, lt-leb}
 use Rattle.base.specs.Lists.{All, each}
 use Rattle.rules.specs.declared.Limits.{Limits}
 use Rattle.rules.specs.Head.{head_fits}
@@ -115,7 +115,7 @@ module _ (l : Limits) (i c n : ℕ) where
   start_leads ss s h j =
       leads_go (sheet_reader l) (with_rungs i c n ss []) Kind.START (two_bytes s.coil ++ (bit s.on ∷ [])) (start_record s.coil s.on)
       (with_rungs i c n (ss ++ (s ∷ [])) []) refl
-      (λ rest. rw (number_back s.coil, lt-ltb _ _ j, bit_small s.on, le_ltb _ _ h, bit_back s.on, map-append, next_snoc))
+      (λ rest. rw (number_back s.coil, lt-ltb _ _ j, bit_small s.on, le-ltb _ _ h, bit_back s.on, map-append, next_snoc))
 
   starts_lead : (ss xs : List Start) → RisesFrom (next 0 (start_coils ss)) (start_coils xs)
       → All (λ (s : Start). s.coil < c) xs → Leads (sheet_reader l) (with_rungs i c n ss []) (each write_start xs) [] (with_rungs i c n (ss ++ xs) [])
@@ -159,7 +159,7 @@ module _ (l : Limits) (i c n : ℕ) where
   rungs_lead ss rs (r ∷ xs) o a f k m =
       let e : rs ++ (r ∷ []) ++ xs ≡ rs ++ (r ∷ xs) = append_snoc rs r xs in
       let k₁ = sizes_append rs (r ∷ xs) in
-      let m₁ = length_append rs (r ∷ xs) in
+      let m₁ = length-append rs (r ∷ xs) in
       let o₁ = once_apart (rung_coils rs) r.coil (rung_coils xs) (rw map-append at o) in
       leads_then (sheet_reader l) (with_rungs i c n ss rs) (with_rungs i c n ss (rs ++ (r ∷ []))) _ (write_rung r) (each write_rung xs) [] []
       (rung_leads ss rs r f.0 (omega arith) a.0 o₁ (omega arith))
@@ -173,7 +173,7 @@ module _ (l : Limits) (i c n : ℕ) where
       let d = stacked_draft (with_rungs i c n ss rs) (record { values = f ∷ []; count = sizes rs + size f }) in
       leads_then (sheet_reader l) (with_rungs i c n ss rs) d _ (write_formula f) (Kind.CONDITION ∷ []) [] []
       (formula_from ss rs f h j)
-      (leads_go (sheet_reader l) d Kind.CONDITION [] (bare_record Kind.CONDITION refl) _ refl (λ rest. rw (le_ltb (length rs) n (omega arith), m)))
+      (leads_go (sheet_reader l) d Kind.CONDITION [] (bare_record Kind.CONDITION refl) _ refl (λ rest. rw (le-ltb (length rs) n (omega arith), m)))
 
 end_reads : (l : Limits) (d : Draft) (p : ℕ) → d.spot ≡ at_end → reading (sheet_reader l) (Kind.END ∷ []) p d ≡ closed p d.sheet
 unfolding rows body_length sheet_reader spot_kinds sheet_move
@@ -217,5 +217,5 @@ sheet_back l t w =
     rw (
       sheet_bytes t,
       unmarked (reading (sheet_reader l) bs 0 blank) ∙ e,
-      le_ltb (p + 1) (length bs) (rw (length_append (up_to_end t) (Kind.END ∷ [])) (omega arith)),
+      le-ltb (p + 1) (length bs) (rw (length-append (up_to_end t) (Kind.END ∷ [])) (omega arith)),
     )

@@ -7,7 +7,7 @@ use mathlib.Core.List.{List, [], ◌∷◌, ◌++◌, append-nil, append_assoc}
 use native.Mathlib.Omega.{arith}
 use lib.ListN.{length, drop}
 use lib.Dec.{ltb, leb}
-use borrow.Author.Tests.{ltb-false, leb-false, le_ltb, lt-leb}
+use borrow.Author.Tests.{ltb-false, leb-false, le-ltb, lt-leb}
 use Rattle.base.specs.Pick.{pick}
 use Rattle.base.specs.Lists.{each}
 use Rattle.rules.specs.Formula.{Leaf, Formula, Formula.leaf, Formula.inverse, Formula.both, Formula.either, Entry, Entry.put, Entry.NOT, Entry.AND, Entry.OR, postfix, size, height}
@@ -55,7 +55,7 @@ module _ (n : Faults) (b : Bounds) (st : Stack) where
 
     pub grows_push : Grows b st e → push n b st e ≡ fine (grown st e)
     unfolding push
-    grows_push g = rw (le_ltb _ _ g.enough, lt-leb _ _ g.room, lt-leb _ _ g.few)
+    grows_push g = rw (le-ltb _ _ g.enough, lt-leb _ _ g.room, lt-leb _ _ g.few)
 
   -- a formula record that was no fault: its range, and its push
   pub record_grows : (k : ℕ) (bs : List ℕ) (u : Stack) → formula_record n b st k bs ≡ fine u

@@ -5,7 +5,7 @@ use mathlib.Core.Path.{◌≡◌, refl, sym, ap, ◌∙◌}
 use mathlib.Core.Bool.{Bool, true, false}
 use mathlib.Core.List.{List, [], ◌∷◌, ◌++◌, map, append-nil, append_assoc, map-append}
 use native.Mathlib.Omega.{arith}
-use lib.ListN.{length, get_or, drop, length_append}
+use lib.ListN.{length, get_or, drop, length-append}
 use lib.Dec.{ltb, eqb}
 use borrow.Author.Tests.{ltb-true, ltb-false, lt-ltb}
 use Rattle.base.specs.Pick.{pick}
@@ -102,7 +102,7 @@ module _ (n : ℕ) (ms : List Mark) (ws bs : List ℕ) (h : Bytes bs) (i : Stepp
         over = i.over ++ (i.under_way ∷ []);
         under_way = [];
         shaped = qed_shape ms i.over i.under_way i.shaped;
-        counted = rw length_append (omega (arith, i.counted));
+        counted = rw length-append (omega (arith, i.counted));
         most = omega arith;
         at_rest = λ g. refl;
       })

@@ -6,7 +6,7 @@ use mathlib.Core.Logic.{◌≢◌}
 use mathlib.Core.Bool.{Bool, true, false}
 use mathlib.Core.List.{List, [], ◌∷◌, ◌++◌, append-nil, append_assoc}
 use native.Mathlib.Omega.{arith}
-use lib.ListN.{length, get_or, drop, length_append}
+use lib.ListN.{length, get_or, drop, length-append}
 use lib.Dec.{ltb, leb, eqb}
 use borrow.Author.Tests.{ltb-true, ltb-false, leb-false, eqb-true, eqb-false}
 use Rattle.base.specs.Pick.{pick}
@@ -103,7 +103,7 @@ module _ (l : Limits) (t : Sheet) (st : Scanning) (ms : Trace) (ws bs : List ℕ
         rises = tt;
         least_next = refl;
         there = tt;
-        counted = rw length_append (omega (arith, i.counted));
+        counted = rw length-append (omega (arith, i.counted));
         few = omega (arith, leb-false l.scans st.count x.0);
         within = all_snoc (WithinScan t) ms st.on i.within (record { rises = i.rises; there = i.there });
       })
@@ -161,7 +161,7 @@ trace_written l t bs tr b r =
     closing l t a.state _ _ a.left a.bytes a.held (get_or a.left 0 0) k.whole_kind
     (scan_kind a.state.on (get_or a.left 0 0) k.allowed_kind) k.moved in
     let first : bs ≡ Kind.TRACE ∷ drop 1 bs = first_byte Kind.TRACE bs (opened_first _ bs Kind.TRACE r.opened) in
-    let n : length a.left ≤ 1 = omega (arith, simp length_append at (ap length a.split), a.place, ap length first, r.last) in
+    let n : length a.left ≤ 1 = omega (arith, simp length-append at (ap length a.split), a.place, ap length first, r.last) in
     let z : a.left ≡ Kind.END ∷ [] = last_record Kind.END a.left c.2 n in
     let held : Scanned l t a.state tr a.passed = rw r.scans at a.held in
     let w = trace_whole l t a.state tr a.passed held c.0 c.1 in (

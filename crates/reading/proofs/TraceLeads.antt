@@ -5,10 +5,10 @@ use mathlib.Core.Path.{◌≡◌, refl, ap, ◌∙◌}
 use mathlib.Core.Logic.{⊎_elim}
 use mathlib.Core.List.{List, [], ◌∷◌, ◌++◌, append-nil}
 use native.Mathlib.Omega.{arith}
-use lib.ListN.{length, take, length_append}
+use lib.ListN.{length, take, length-append}
 use lib.Seq.{append_snoc}
 use lib.Dec.{eqb}
-use borrow.Author.Tests.{lt-ltb, le_ltb, lt-leb, ne_eqb}
+use borrow.Author.Tests.{lt-ltb, le-ltb, lt-leb, ne_eqb}
 use Rattle.base.specs.Lists.{All, each}
 use Rattle.rules.specs.declared.Limits.{Limits}
 use Rattle.rules.specs.Kind
@@ -38,7 +38,7 @@ module _ (l : Limits) (t : Sheet) where
   unfolding scans_reader scans_move read_input_on write_input_on
   input_on_leads on c n h i =
       leads_go (scans_reader l t) (scanning_at on c) Kind.INPUTON (two_bytes n) (input_on_record n) (scanning_at (on ++ (n ∷ [])) c) refl
-      (λ rest. rw (number_back n, lt-ltb _ _ i, le_ltb _ _ h, next_snoc))
+      (λ rest. rw (number_back n, lt-ltb _ _ i, le-ltb _ _ h, next_snoc))
 
   inputs_lead : (on : List ℕ) (c : ℕ) (xs : List ℕ) → RisesFrom (next 0 on) xs → All (λ (n : ℕ). n < t.inputs) xs
       → Leads (scans_reader l t) (scanning_at on c) (each write_input_on xs) [] (scanning_at (on ++ xs) c)
@@ -82,7 +82,7 @@ module _ (l : Limits) (t : Sheet) where
         scans = b.marked_first ∙ ap (λ z. tr ++ marks z) e ∙ append-nil tr;
         place = 1 + length (each write_scan tr);
         closes = b.final_same ∙ ap final e;
-        last = rw length_append (omega arith);
+        last = rw length-append (omega arith);
       }
 
   scans_local : Local (scans_reader l t)

@@ -4,7 +4,7 @@ use Prim.Native.Nat.{ℕ, zero, suc, ◌+◌, ◌≤◌, ◌<◌}
 use mathlib.Core.Path.{◌≡◌, refl, sym, ap, ◌∙◌}
 use mathlib.Core.List.{List, [], ◌∷◌, ◌++◌, append_assoc, append-nil}
 use native.Mathlib.Omega.{arith}
-use lib.ListN.{length, get_or, take, drop, length_append, take-append-drop}
+use lib.ListN.{length, get_or, take, drop, length-append, take-append-drop}
 use lib.Seq.{get_or-drop, length-take-le, append_snoc}
 use Rattle.rules.specs.Record.{record_length}
 use Rattle.rules.specs.Walk.{◌at◌, Move, Move.go, Move.mark, Move.no, Move.done, Reading.closed, Reader, move_at, past, walk, reading}
@@ -61,7 +61,7 @@ module _ {S M X : Type 0} (r : Reader S M X) (Inv : S → List M → List ℕ �
         passed = record_at bs ++ a.passed;
         left = a.left;
         split = sym (record_past bs) ∙ ap (λ (z : List ℕ). record_at bs ++ z) a.split ∙ sym (append_assoc (record_at bs) a.passed a.left);
-        place = rw (length_append (record_at bs) a.passed, n) (let e = a.place in omega arith);
+        place = rw (length-append (record_at bs) a.passed, n) (let e = a.place in omega arith);
         bytes = a.bytes;
         held = rw append_assoc at a.held;
         closes = a.closes;

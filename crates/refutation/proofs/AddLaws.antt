@@ -5,7 +5,7 @@ use mathlib.Core.Path.{◌≡◌, refl, sym, ap, ◌∙◌}
 use mathlib.Core.Bool.{Bool, true, false, or-true}
 use mathlib.Core.List.{List, [], ◌∷◌, ◌++◌}
 use native.Mathlib.Omega.{arith}
-use lib.ListN.{length, get_or, drop, set, length_append}
+use lib.ListN.{length, get_or, drop, set, length-append}
 use borrow.Author.Tests.{eq-eqb, ne_eqb}
 use Rattle.rules.specs.Record.{one_of}
 use Rattle.refutation.specs.Memory.{part, Outside}
@@ -18,7 +18,7 @@ length_with x xs = go (one_of xs x) refl
   where
     go : (b : Bool) → one_of xs x ≡ b → length xs ≤ length (with x xs)
     go true e = rw e (omega arith)
-    go false e = rw (e, length_append) (omega arith)
+    go false e = rw (e, length-append) (omega arith)
 
 module _ (w : List ℕ) (a width k x : ℕ) where
   pub add_over : Space w a width k → width < k → Grown w a width k (with x) w k
@@ -49,7 +49,7 @@ module _ (w : List ℕ) (a width k x : ℕ) where
       built = λ xs b.
           let t : one_of xs x ≡ false = same_test xs b ∙ q in
           rw t
-          (record { counted = rw length_append (omega (arith, b.counted)); kept = λ j. absurd (omega arith) });
+          (record { counted = rw length-append (omega (arith, b.counted)); kept = λ j. absurd (omega arith) });
       upto = omega arith;
       outside = outside_same a (a + width) w;
     }
@@ -61,7 +61,7 @@ module _ (w : List ℕ) (a width k x : ℕ) where
           let t : one_of xs x ≡ false = same_test xs b ∙ q in
           rw t
           (record {
-            counted = rw length_append (omega (arith, b.counted));
+            counted = rw length-append (omega (arith, b.counted));
             kept = λ j. part_more w a k x (omega (arith, s.fits)) ∙ ap (λ (y : List ℕ). y ++ (x ∷ [])) (b.kept h);
           });
       upto = omega arith;

@@ -7,7 +7,7 @@ use mathlib.Core.List.{List, [], ◌∷◌, ◌++◌, map}
 use native.Mathlib.Omega.{arith}
 use lib.ListN.{length, length-map}
 use lib.Dec.{eqb, ltb}
-use borrow.Author.Tests.{eq-eqb, ne_eqb, eqb-true, eqb-false, lt-ltb, le_ltb, ltb-true, ltb-false}
+use borrow.Author.Tests.{eq-eqb, ne_eqb, eqb-true, eqb-false, lt-ltb, le-ltb, ltb-true, ltb-false}
 use Rattle.rules.specs.Record.{one_of}
 use Rattle.rules.specs.Clauses.{Lit, Lit.plain, Lit.negated, Clause, place}
 use Rattle.rules.specs.Resolution.{same, has, NoneTwice, without, once, resolvent, is_empty}
@@ -187,5 +187,5 @@ module _ (bs ds : List ℕ) (c d : Clause) (v : ℕ) (f : Means bs c) (g : Means
           ap₂ ◌&&◌ (f.members (plain v)) (g.members (negated v)) ∙ rw (e, one, z)
       go false e =
           let h = ltb-false 0 v e in
-          let z : ltb 0 (2 * v) ≡ false = le_ltb 0 (2 * v) (omega arith) in
+          let z : ltb 0 (2 * v) ≡ false = le-ltb 0 (2 * v) (omega arith) in
           ap₂ ◌&&◌ (f.members (plain v)) (g.members (negated v)) ∙ rw (e, z)

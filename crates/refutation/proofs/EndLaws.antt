@@ -7,7 +7,7 @@ use mathlib.Core.List.{List, [], ◌∷◌}
 use native.Mathlib.Omega.{arith}
 use lib.ListN.{length, drop}
 use lib.Dec.{eqb, leb, ltb}
-use borrow.Author.Tests.{ne_eqb, eqb-true, leb-false, lt-ltb, le_ltb}
+use borrow.Author.Tests.{ne_eqb, eqb-true, leb-false, lt-ltb, le-ltb}
 use Rattle.base.specs.Pick.{pick}
 use Rattle.rules.specs.declared.Limits.{Limits}
 use Rattle.rules.specs.declared.Answer.{Answer}
@@ -31,7 +31,7 @@ module _ (n p k next : ℕ) where
 
   pub end_right : k ≡ 0x2F → n ≤ next → Accepted ≡ end_whole n p k next
   unfolding end_whole
-  end_right e h = rw (e, le_ltb _ _ h)
+  end_right e h = rw (e, le-ltb _ _ h)
 
   pub end_other : (k ≡ 0x2F → ⊥) → Refused 13 p ≡ end_whole n p k next
   unfolding end_whole

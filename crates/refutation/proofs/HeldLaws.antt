@@ -5,7 +5,7 @@ use mathlib.Core.Path.{◌≡◌, refl, ◌∙◌}
 use mathlib.Core.Bool.{Bool, true, false, and-false}
 use mathlib.Core.List.{List, [], ◌∷◌, ◌++◌}
 use native.Mathlib.Omega.{arith}
-use lib.ListN.{length, get_or, take, length_append, get_or-append}
+use lib.ListN.{length, get_or, take, length-append, get_or-append}
 use lib.Seq.{get_or_at}
 use lib.Dec.{ltb}
 use borrow.Author.Tests.{le-leb, lt-leb, ltb-true, ltb-false}
@@ -60,7 +60,7 @@ module _ (l : Limits) (w w' : List ℕ) (n from m : ℕ) (f : Fit l w n from m) 
 
   pub held_more : (cs : List Clause) (e : Clause) → Held l w n from m cs → Slot w' (slot_at l from m) e → Held l w' n from (m + 1) (cs ++ (e ∷ []))
   held_more cs e h s = record {
-    count = length_append cs (e ∷ []) ∙ omega (arith, h.count);
+    count = length-append cs (e ∷ []) ∙ omega (arith, h.count);
     base = λ i k.
         let a = part_front w w' (slot_at l from m) (3 * i) 3 front (omega (arith, f.space.below)) in
         let b = get_or-append cs (e ∷ []) [] i (omega (arith, h.count)) in

@@ -6,7 +6,7 @@ use mathlib.Core.Bool.{true, false, ◌&&◌, and-false}
 use mathlib.Core.List.{List}
 use lib.ListN.{length, get_or}
 use lib.Dec.{ltb, leb, eqb}
-use borrow.Author.Tests.{le-leb, lt-leb, lt-ltb, le_ltb}
+use borrow.Author.Tests.{le-leb, lt-leb, lt-ltb, le-ltb}
 use Rattle.base.specs.Pick.{pick}
 use Rattle.rules.specs.declared.Limits.{Limits}
 use Rattle.rules.specs.Certificate.{Step}
@@ -107,7 +107,7 @@ module _ (l : Limits) (w : List ℕ) (n from m : ℕ) (q : Step) where
       outside = around g;
     }
     step_made v g (late x y) = record {
-      follows = λ cs h. refuses {k = 21} (judging cs h v ∙ rw (le_ltb _ _ x, le-leb _ _ y));
+      follows = λ cs h. refuses {k = 21} (judging cs h v ∙ rw (le-ltb _ _ x, le-leb _ _ y));
       fit = tt;
       outside = around g;
     }
@@ -118,7 +118,7 @@ module _ (l : Limits) (w : List ℕ) (n from m : ℕ) (q : Step) where
           follows = λ cs h.
               let e : Clauses.Clause = resolvent q.pivot (nth cs q.first) (nth cs q.second) in
               let i = union_size (part w s k) (part w t z) (nth cs q.first) (nth cs q.second) q.pivot (located cs h p).means (located cs h p').means in
-              derives e (judging cs h v ∙ rw (le_ltb _ _ x, lt-leb _ _ y)) (b ∙ ap (λ (j : ℕ). eqb j 0) i ∙ sym (empty_length e))
+              derives e (judging cs h v ∙ rw (le-ltb _ _ x, lt-leb _ _ y)) (b ∙ ap (λ (j : ℕ). eqb j 0) i ∙ sym (empty_length e))
               (held_more l w w' n from m f front cs e h (held cs h size lits));
           fit = fit_more l w w' n from m f front long y here;
           outside = around g;

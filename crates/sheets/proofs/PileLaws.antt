@@ -7,7 +7,7 @@ use mathlib.Core.List.{List, ◌∷◌}
 use native.Mathlib.Omega.{arith}
 use lib.ListN.{length, get_or, drop, length-drop}
 use lib.Dec.{ltb, eqb}
-use borrow.Author.Tests.{le-leb, lt-leb, lt-ltb, le_ltb, ne_eqb}
+use borrow.Author.Tests.{le-leb, lt-leb, lt-ltb, le-ltb, ne_eqb}
 use Rattle.rules.specs.Record.{number}
 use Rattle.rules.specs.ReadFormula.{in_range, entry, arity, build, push, formula_record}
 use Rattle.sheets.specs.Pile.{scope_of, Adds, Pushes, Puts}
@@ -76,7 +76,7 @@ module _ (n : Numbers) (b : Scope) (p : Pile) (m : ℕ) where
     push_depth j st e r q =
         let k : arity e ≤ length st.values = omega (arith, r.height) in
         let i : b.depth ≤ length st.values - arity e = omega (arith, r.height) in
-        simp (le_ltb _ _ k, length-drop, le-leb _ _ i)
+        simp (le-ltb _ _ k, length-drop, le-leb _ _ i)
 
     module _ (j : p.depth - m < b.depth) where
       pub push_records : b.records ≤ p.count → Pushes n b p m (Fault n.records)
@@ -85,7 +85,7 @@ module _ (n : Numbers) (b : Scope) (p : Pile) (m : ℕ) where
           let k : arity e ≤ length st.values = omega (arith, r.height) in
           let i : length st.values - arity e < b.depth = omega (arith, r.height) in
           let g : b.records ≤ st.count = omega (arith, r.counted) in
-          simp (le_ltb _ _ k, length-drop, lt-leb _ _ i, le-leb _ _ g)
+          simp (le-ltb _ _ k, length-drop, lt-leb _ _ i, le-leb _ _ g)
 
       pub push_fine : p.count < b.records → Pushes n b p m (Fine (record { depth = p.depth - m + 1; count = p.count + 1 }))
       unfolding push Adds
@@ -95,7 +95,7 @@ module _ (n : Numbers) (b : Scope) (p : Pile) (m : ℕ) where
           let g : st.count < b.records = omega (arith, r.counted) in
           record {
             to = record { values = build e st.values ∷ drop (arity e) st.values; count = st.count + 1 };
-            pushed = simp (le_ltb _ _ k, length-drop, lt-leb _ _ i, lt-leb _ _ g);
+            pushed = simp (le-ltb _ _ k, length-drop, lt-leb _ _ i, lt-leb _ _ g);
             piled = record { height = simp length-drop (omega (arith, r.height)); counted = omega (arith, r.counted) };
           }
 

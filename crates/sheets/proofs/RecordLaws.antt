@@ -6,7 +6,7 @@ use mathlib.Core.Bool.{Bool, true, false}
 use mathlib.Core.List.{List}
 use native.Mathlib.Omega.{arith}
 use lib.ListN.{get_or, drop}
-use borrow.Author.Tests.{ne_eqb, not-true, not_false}
+use borrow.Author.Tests.{ne_eqb, not-true, not-false}
 use Rattle.base.specs.Pick.{pick}
 use Rattle.rules.specs.declared.Limits.{Limits}
 use Rattle.rules.specs.Record.{body_length, rows, front, record_length, one_of}
@@ -144,7 +144,7 @@ module _ (l : Limits) (s m : List ℕ) (d : Kept) (k next : ℕ) (a : Bool) (ea 
           rest = refl;
         })
 
-pub ruleset whole_record_cases = (whole_strange, whole_head, whole_start, whole_rung, whole_condition, whole_entry, whole_end, not-true, not_false)
+pub ruleset whole_record_cases = (whole_strange, whole_head, whole_start, whole_rung, whole_condition, whole_entry, whole_end, not-true, not-false)
 
 module _ (d : Kept) (k : ℕ) (a : Bool) (ea : (x : Spot) → d.spot ≡ spot_no x → a ≡ one_of (spot_kinds x) k) where
   pub cut_ends : a ≡ true → CutReads d k (No 2)

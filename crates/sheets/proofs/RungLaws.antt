@@ -5,10 +5,10 @@ use mathlib.Core.Path.{◌≡◌, refl, sym, ap, ◌∙◌}
 use mathlib.Core.Bool.{Bool, true, false, not, ◌||◌, or-true, or-false, or_assoc}
 use mathlib.Core.List.{List, [], ◌∷◌, ◌++◌}
 use native.Mathlib.Omega.{arith}
-use lib.ListN.{length, get_or, drop, set, length_append, length-set}
+use lib.ListN.{length, get_or, drop, set, length-append, length-set}
 use lib.Seq.{get_or-set_same, get_or-set_other, drop-set-lt}
 use lib.Dec.{eqb}
-use borrow.Author.Tests.{le-leb, lt-leb, lt-ltb, le_ltb, eq-eqb, ne_eqb, eqb-true, eqb-false}
+use borrow.Author.Tests.{le-leb, lt-leb, lt-ltb, le-ltb, eq-eqb, ne_eqb, eqb-true, eqb-false}
 use Rattle.base.specs.Lists.{each}
 use Rattle.rules.specs.declared.Limits.{Limits}
 use Rattle.rules.specs.Record.{number}
@@ -43,11 +43,11 @@ marks_more rs r m c h k e = go (eqb c r.coil) refl
 
 rung_bytes : (r : Rung) → length (write_rung r) ≡ bytes_of r.formula + 3
 unfolding write_rung bytes_of
-rung_bytes r = simp length_append
+rung_bytes r = simp length-append
 
 rungs_more : (rs : List Rung) (r : Rung) → length (each write_rung (rs ++ (r ∷ []))) ≡ length (each write_rung rs) + length (write_rung r)
-rungs_more [] r = simp length_append (omega arith)
-rungs_more (x ∷ rs) r = simp length_append (omega (arith, rungs_more rs r))
+rungs_more [] r = simp length-append (omega arith)
+rungs_more (x ∷ rs) r = simp length-append (omega (arith, rungs_more rs r))
 
 -- RUNG, with its coil
 module _ (l : Limits) (s m : List ℕ) (d : Kept) (next c : ℕ) (ec : c ≡ number (drop d.at s) 1) where
@@ -59,7 +59,7 @@ module _ (l : Limits) (s m : List ℕ) (d : Kept) (next c : ℕ) (ec : c ≡ num
   unfolding read_rung
   rung_coil h t st ru q =
       let k : t.sheet.coils ≤ c = omega (arith, st.coils_are) in
-      stays 4 t (read_rung t (drop d.at s)) (rw (← ec, le_ltb _ _ k))
+      stays 4 t (read_rung t (drop d.at s)) (rw (← ec, le-ltb _ _ k))
 
   module _ (hc : c < d.coils) where
     pub rung_operands : (d.depth ≡ 1 → ⊥) → RungReads l s m m d next (No 6)
@@ -130,7 +130,7 @@ module _ (l : Limits) (s m : List ℕ) (d : Kept) (next c : ℕ) (ec : c ≡ num
                   coils_are = st.coils_are;
                   promised_are = st.promised_are;
                   least_is = st.least_is;
-                  rungs_are = simp length_append (omega (arith, st.rungs_are));
+                  rungs_are = simp length-append (omega (arith, st.rungs_are));
                   height = refl;
                   counted = st.counted;
                   fit = record { coils_in = st.fit.coils_in; room = simp length-set st.fit.room };
@@ -187,7 +187,7 @@ module _ (l : Limits) (d : Kept) (next : ℕ) where
             promised = t.promised;
             least = t.least;
           };
-          moved = rw (o, le_ltb _ _ p);
+          moved = rw (o, le-ltb _ _ p);
           there = refl;
           stands = record {
             spot_is = refl;

@@ -8,7 +8,7 @@ use native.Mathlib.Omega.{arith}
 use lib.ListN.{length, get_or, drop}
 use lib.Seq.{drop_at}
 use lib.Dec.{ltb}
-use borrow.Author.Tests.{lt-ltb, le_ltb}
+use borrow.Author.Tests.{lt-ltb, le-ltb}
 use Rattle.base.specs.Pick.{pick}
 use Rattle.base.specs.Lists.{fresh}
 use Rattle.base.proofs.ClearLaws.{fresh_length, fresh_rest, fresh_zero}
@@ -169,6 +169,6 @@ pub ended_whole : (s : List ℕ) (d : Kept) → length s ≤ d.at + 1
       rungs_at = d.rungs_at;
       condition_at = d.condition_at;
     }) ≡ ended_as s d
-ended_whole s d h = simp (le_ltb _ _ h)
+ended_whole s d h = simp (le-ltb _ _ h)
 
 pub ruleset ended_cases = (ended_more, ended_whole)

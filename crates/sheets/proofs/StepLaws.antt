@@ -5,9 +5,9 @@ use mathlib.Core.Path.{◌≡◌, refl, sym, ◌∙◌}
 use mathlib.Core.Bool.{Bool, true, false, ◌&&◌, and-false}
 use mathlib.Core.List.{List, [], ◌∷◌, ◌++◌}
 use native.Mathlib.Omega.{arith}
-use lib.ListN.{length, get_or, drop, length_append}
+use lib.ListN.{length, get_or, drop, length-append}
 use lib.Dec.{leb, eqb}
-use borrow.Author.Tests.{leb-true, lt-ltb, le_ltb}
+use borrow.Author.Tests.{leb-true, lt-ltb, le-ltb}
 use Rattle.base.specs.Lists.{each}
 use Rattle.rules.specs.declared.Limits.{Limits}
 use Rattle.rules.specs.declared.Sheet.{Sheet as Head}
@@ -123,11 +123,11 @@ module _ (l : Limits) (s : List ℕ) (d : Kept) (next c v : ℕ)
   unfolding read_start After
   start_coil h m t st sg q =
       let k : t.sheet.coils ≤ c = omega (arith, st.coils_are) in
-      rw (← ec, le_ltb _ _ k)
+      rw (← ec, le-ltb _ _ k)
 
   pub start_value : 2 ≤ v → StartReads l s d next (No 4)
   unfolding read_start After
-  start_value h m t st sg q = rw (← ev, le_ltb _ _ h, and-false)
+  start_value h m t st sg q = rw (← ev, le-ltb _ _ h, and-false)
 
   module _ (hc : c < d.coils) (hv : v < 2) where
     pub start_low : c < d.least → StartReads l s d next (No 5)
@@ -159,7 +159,7 @@ module _ (l : Limits) (s : List ℕ) (d : Kept) (next c v : ℕ)
         let n : length (each write_rung t.sheet.rungs) ≡ 0 = rw sg.no_rung in
         let f : total bytes_of t.stack.values ≡ 0 = rw sg.no_value in
         let b : next ≡ 7 + 4 * length (t.sheet.starts ++ (record { coil = c; on = eqb v 1 } ∷ [])) =
-        simp length_append (omega (arith, p.so_far, p.ruled.condition_begins, p.ruled.rungs_begin)) in
+        simp length-append (omega (arith, p.so_far, p.ruled.condition_begins, p.ruled.rungs_begin)) in
         record {
           to = record {
             spot = at_starts;
@@ -168,7 +168,7 @@ module _ (l : Limits) (s : List ℕ) (d : Kept) (next c v : ℕ)
             promised = t.promised;
             least = c + 1;
           };
-          moved = rw (← ec, ← ev, lt-ltb _ _ k, lt-ltb _ _ hv, le_ltb _ _ j);
+          moved = rw (← ec, ← ev, lt-ltb _ _ k, lt-ltb _ _ hv, le-ltb _ _ j);
           there = refl;
           stands = record {
             spot_is = refl;

@@ -5,7 +5,7 @@ use mathlib.Core.Path.{◌≡◌, refl}
 use mathlib.Core.Bool.{Bool, true, false}
 use mathlib.Core.List.{List, [], ◌∷◌, ◌++◌}
 use native.Mathlib.Omega.{arith}
-use lib.ListN.{length, drop, length_append}
+use lib.ListN.{length, drop, length-append}
 use lib.Dec.{ltb, leb}
 use borrow.Author.Tests.{ltb-false}
 use Rattle.base.specs.Pick.{pick}
@@ -19,7 +19,7 @@ use Rattle.sheets.proofs.KindLaws.{formula_kind}
 
 each_append : (es fs : List Entry) → length (each write_entry (es ++ fs)) ≡ length (each write_entry es) + length (each write_entry fs)
 each_append [] fs = omega arith
-each_append (e ∷ es) fs = simp length_append (omega (arith, each_append es fs))
+each_append (e ∷ es) fs = simp length-append (omega (arith, each_append es fs))
 
 -- a count of formulas, by what a record adds to it
 pub record Counts (f : Formula → ℕ) (w : Entry → ℕ) : Type 0 where
@@ -34,10 +34,10 @@ entry_bytes e = length (write_entry e)
 pub bytes_count : Counts bytes_of entry_bytes
 unfolding bytes_of write_formula postfix
 bytes_count = record {
-  on_leaf = λ x. simp length_append (omega arith);
-  on_not = λ g. simp (each_append, length_append) (omega arith);
-  on_and = λ g h. simp (each_append, length_append) (omega arith);
-  on_or = λ g h. simp (each_append, length_append) (omega arith);
+  on_leaf = λ x. simp length-append (omega arith);
+  on_not = λ g. simp (each_append, length-append) (omega arith);
+  on_and = λ g h. simp (each_append, length-append) (omega arith);
+  on_or = λ g h. simp (each_append, length-append) (omega arith);
 }
 
 abbrev pub one_each : Entry → ℕ

@@ -5,7 +5,7 @@ use native.Mathlib.Omega.{arith}
 use mathlib.Core.Path.{◌≡◌, refl}
 use mathlib.Core.Bool.{Bool, true, false}
 use mathlib.Core.List.{List, [], ◌∷◌, ◌++◌, append_assoc, append-nil}
-use lib.ListN.{length, length_append}
+use lib.ListN.{length, length-append}
 use lib.Dec.{ltb}
 use borrow.Author.Tests.{ltb-true, ltb-false}
 use Rattle.base.specs.Pick.{pick}
@@ -17,9 +17,9 @@ use Rattle.solving.specs.Statements.{RecordsEnd}
 pub records_count : (f : Formula) → length (postfix f) ≡ size f
 unfolding postfix size
 records_count (leaf x) = refl
-records_count (inverse f) = simp length_append (let e = records_count f in omega arith)
-records_count (both f h) = simp length_append (let e = records_count f in let d = records_count h in omega arith)
-records_count (either f h) = simp length_append (let e = records_count f in let d = records_count h in omega arith)
+records_count (inverse f) = simp length-append (let e = records_count f in omega arith)
+records_count (both f h) = simp length-append (let e = records_count f in let d = records_count h in omega arith)
+records_count (either f h) = simp length-append (let e = records_count f in let d = records_count h in omega arith)
 
 -- the whole formula ends at its last record
 whole : (f : Formula) (n : ℕ) → size f ≡ n + 1 → EndsAt f f n
@@ -31,7 +31,7 @@ shifted f e x n m us vs p q s = record {
   front = us ++ s.front;
   rest = s.rest ++ vs;
   there = rw (p, s.there) (simp append_assoc);
-  last = simp length_append (let z = s.last in omega arith);
+  last = simp length-append (let z = s.last in omega arith);
 }
 
 -- each record of f has the sub-formula that ends there

@@ -5,7 +5,7 @@ use native.Mathlib.Omega.{arith}
 use mathlib.Core.Path.{◌≡◌, sym, ◌∙◌}
 use mathlib.Core.Logic.{◌⊎◌.inl, ◌⊎◌.inr}
 use lib.Dec.{ltb}
-use borrow.Author.Tests.{lt-ltb, le_ltb}
+use borrow.Author.Tests.{lt-ltb, le-ltb}
 use Rattle.base.specs.Pick.{pick}
 use Rattle.rules.specs.Formula.{Inputs, Coils, Formula}
 use Rattle.rules.specs.Sheet.{Sheet}
@@ -31,7 +31,7 @@ module _ (t : Sheet) (inv : Formula) (w : Which) (k : Coils) (i : Inputs) where
       on_inputs : (j : ℕ) → j < t.inputs → extension t inv k i (1 + t.coils + j) ≡ i j
       on_inputs j l =
           let e : 1 + t.coils + j - (1 + t.coils) ≡ j = omega arith in
-          rw (le_ltb (1 + t.coils + j) (1 + t.coils) (omega arith), lt-ltb (1 + t.coils + j) (rungs_at t) (omega arith), e)
+          rw (le-ltb (1 + t.coils + j) (1 + t.coils) (omega arith), lt-ltb (1 + t.coils + j) (rungs_at t) (omega arith), e)
 
   -- a defined variable comes after the coils and the inputs
   past_chosen : (u : Which) (v : ℕ) → Defined t inv u v → rungs_at t ≤ v
@@ -48,7 +48,7 @@ module _ (t : Sheet) (inv : Formula) (w : Which) (k : Coils) (i : Inputs) where
   unfolding extension
   extension_settled v d =
       let p = past_chosen w v d in
-      rw (le_ltb v (1 + t.coils) (omega arith), le_ltb v (rungs_at t) p)
+      rw (le-ltb v (1 + t.coils) (omega arith), le-ltb v (rungs_at t) p)
 
 pub extends_once : ExtendsOnce
 extends_once l t inv sheet invariant w k i = record {

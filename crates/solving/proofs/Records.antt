@@ -8,7 +8,7 @@ use mathlib.Core.Logic.{◌↔◌}
 use mathlib.Core.Bool.{Bool, true, false, not, ◌&&◌, ◌||◌}
 use mathlib.Core.List.{List, ◌++◌}
 use lib.Dec.{ltb}
-use borrow.Author.Tests.{ltb-true, ltb-false, lt-ltb, le_ltb}
+use borrow.Author.Tests.{ltb-true, ltb-false, lt-ltb, le-ltb}
 use Rattle.base.specs.Pick.{pick}
 use Rattle.rules.specs.Formula.{Inputs, Coils, Leaf.input, Leaf.coil, Leaf.constant, Formula, Formula.leaf, Formula.inverse, Formula.both, Formula.either, reads, value, size}
 use Rattle.rules.specs.ReadFormula.{Bounds}
@@ -50,7 +50,7 @@ split_have b g n m f h = (λ r. (first r, second r), λ r. joined r.0 r.1)
     second r j l =
         let e : n + j - n ≡ j = omega arith in
         let s : g + (n + j) ≡ g + n + j = omega arith in
-        rw (e, s) at (rw (le_ltb (n + j) n (omega arith)) at (r (n + j) (omega arith)))
+        rw (e, s) at (rw (le-ltb (n + j) n (omega arith)) at (r (n + j) (omega arith)))
 
     joined : Have b g n f → Have b (g + n) m h → (j : ℕ) → j < n + m → b (g + j) ≡ pick (ltb j n) (f j) (h (j - n))
     joined p q j l = go (ltb j n) refl
@@ -87,11 +87,11 @@ become e = (λ h. h ∙ e, λ h. h ∙ sym e)
 last : (f : Formula) → ending f (size f - 1) ≡ f
 unfolding ending size
 last (leaf x) = refl
-last (inverse f) = rw (le_ltb (size f + 1 - 1) (size f) (omega arith))
+last (inverse f) = rw (le-ltb (size f + 1 - 1) (size f) (omega arith))
 last (both f h) =
-    rw (le_ltb (size f + size h + 1 - 1) (size f) (omega arith), le_ltb (size f + size h + 1 - 1 - size f) (size h) (omega arith))
+    rw (le-ltb (size f + size h + 1 - 1) (size f) (omega arith), le-ltb (size f + size h + 1 - 1 - size f) (size h) (omega arith))
 last (either f h) =
-    rw (le_ltb (size f + size h + 1 - 1) (size f) (omega arith), le_ltb (size f + size h + 1 - 1 - size f) (size h) (omega arith))
+    rw (le-ltb (size f + size h + 1 - 1) (size f) (omega arith), le-ltb (size f + size h + 1 - 1 - size f) (size h) (omega arith))
 
 -- an operator's records are its operands' and its own
 module _ (b : Assignment) (i : Inputs) (k : Coils) where

@@ -7,7 +7,7 @@ use mathlib.Core.Logic.Iff
 use mathlib.Core.Logic.{◌↔◌, ◌⊎◌, ◌⊎◌.inl, ◌⊎◌.inr}
 use mathlib.Core.Bool.{Bool}
 use mathlib.Core.List.{List, [], ◌∷◌}
-use borrow.Author.Tests.{lt-ltb, le_ltb}
+use borrow.Author.Tests.{lt-ltb, le-ltb}
 use Rattle.base.specs.Lists.{All}
 use Rattle.rules.specs.declared.Limits.{Limits}
 use Rattle.rules.specs.Formula.{Inputs, Coils, Formula, size}
@@ -57,19 +57,19 @@ module _ (t : Sheet) (inv : Formula) (k : Coils) (i : Inputs) where
   unfolding computed
   of_condition m l =
       let e : condition_at t + m - condition_at t ≡ m = omega arith in
-      rw (le_ltb (condition_at t + m) (condition_at t) (omega arith), lt-ltb (condition_at t + m) (before_at t) (omega arith), e)
+      rw (le-ltb (condition_at t + m) (condition_at t) (omega arith), lt-ltb (condition_at t + m) (before_at t) (omega arith), e)
 
   of_before : (m : ℕ) → m < size inv → computed t inv k i (before_at t + m) ≡ record_value i k inv m
   unfolding computed
   of_before m l =
       let e : before_at t + m - before_at t ≡ m = omega arith in
-      rw (le_ltb (before_at t + m) (condition_at t) (omega arith), le_ltb (before_at t + m) (before_at t) (omega arith), lt-ltb (before_at t + m) (after_at t inv) (omega arith), e)
+      rw (le-ltb (before_at t + m) (condition_at t) (omega arith), le-ltb (before_at t + m) (before_at t) (omega arith), lt-ltb (before_at t + m) (after_at t inv) (omega arith), e)
 
   of_after : (m : ℕ) → m < size inv → computed t inv k i (after_at t inv + m) ≡ record_value i (scan t i k) inv m
   unfolding computed
   of_after m l =
       let e : after_at t inv + m - after_at t inv ≡ m = omega arith in
-      rw (le_ltb (after_at t inv + m) (condition_at t) (omega arith), le_ltb (after_at t inv + m) (before_at t) (omega arith), le_ltb (after_at t inv + m) (after_at t inv) (omega arith), e)
+      rw (le-ltb (after_at t inv + m) (condition_at t) (omega arith), le-ltb (after_at t inv + m) (before_at t) (omega arith), le-ltb (after_at t inv + m) (after_at t inv) (omega arith), e)
 
 -- an invariant names coils only
 narrow : (l : Limits) (t : Sheet) (vs : Vars) (b : Assignment) (i : Inputs) (k : Coils)

@@ -5,9 +5,9 @@ use mathlib.Core.Path.{◌≡◌, refl, sym, ap, ◌∙◌, subst, fun_ext}
 use mathlib.Core.Bool.{Bool, true, false, not, ◌&&◌, ◌||◌, or-false, and-false}
 use mathlib.Core.List.{List, [], ◌∷◌, ◌++◌}
 use native.Mathlib.Omega.{arith}
-use lib.ListN.{length, get_or, set, length_append}
+use lib.ListN.{length, get_or, set, length-append}
 use lib.Dec.{eqb, ltb, leb}
-use borrow.Author.Tests.{lt-ltb, le_ltb, le-leb, lt-leb, eq-eqb, ne_eqb}
+use borrow.Author.Tests.{lt-ltb, le-ltb, le-leb, lt-leb, eq-eqb, ne_eqb}
 use Rattle.base.specs.Pick.{pick}
 use Rattle.base.specs.Lists.{fresh}
 use Rattle.base.proofs.ClearLaws.{all_zero}
@@ -61,7 +61,7 @@ named_more os n = fun_ext (λ m. go m os)
 
 some_named : (os : List ℕ) (n : ℕ) → eqb (length (os ++ (n ∷ []))) 0 ≡ eqb (n + 1) 0
 some_named os n =
-    let a : length (os ++ (n ∷ [])) ≡ length os + 1 = length_append os (n ∷ []) in
+    let a : length (os ++ (n ∷ [])) ≡ length os + 1 = length-append os (n ∷ []) in
     let b : length (os ++ (n ∷ [])) ≡ 0 → ⊥ = λ (z : length (os ++ (n ∷ [])) ≡ 0). omega arith in
     let c : n + 1 ≡ 0 → ⊥ = λ (z : n + 1 ≡ 0). omega arith in
     ne_eqb _ _ b ∙ sym (ne_eqb _ _ c)
@@ -73,7 +73,7 @@ follow t inputs coils g r m m' e f = rw (← e) f
 module _ (known : ℕ) (inputs : List ℕ) (p : Play) (n : ℕ) where
   pub input_14 : known ≤ n → NamesInput known inputs inputs p n (No 14)
   unfolding read_input_on
-  input_14 h t coils st g e q = follow t inputs coils g (No 14) (no 14) (read_input_on t st n) (rw (e, le_ltb _ _ h)) stops
+  input_14 h t coils st g e q = follow t inputs coils g (No 14) (no 14) (read_input_on t st n) (rw (e, le-ltb _ _ h)) stops
 
   pub input_23 : n < known → n < p.least → NamesInput known inputs inputs p n (No 23)
   unfolding read_input_on
@@ -88,7 +88,7 @@ module _ (known : ℕ) (inputs : List ℕ) (p : Play) (n : ℕ) where
       let l : st.least ≤ n = rw q.least at k in
       follow t (set inputs n 1) coils g (Go (record { least = n + 1; count = p.count; first = p.first; broken = p.broken }))
       (go (record { on = st.on ++ (n ∷ []); least = n + 1; count = st.count })) (read_input_on t st n)
-      (rw (e, lt-ltb _ _ h, le_ltb _ _ l))
+      (rw (e, lt-ltb _ _ h, le-ltb _ _ l))
       (goes
       (record {
         least = refl;

@@ -7,7 +7,7 @@ use mathlib.Core.List.{List, [], ◌∷◌}
 use native.Mathlib.Omega.{arith}
 use lib.ListN.{length, get_or, drop, length-drop}
 use lib.Dec.{ltb, eqb}
-use borrow.Author.Tests.{lt-ltb, le_ltb, not-true, not_false}
+use borrow.Author.Tests.{lt-ltb, le-ltb, not-true, not-false}
 use Rattle.base.specs.Pick.{pick}
 use Rattle.rules.specs.declared.Limits.{Limits}
 use Rattle.rules.specs.declared.Answer.{Answer}
@@ -56,11 +56,11 @@ module _ (c : List ℕ) (q : ℕ) (p : Play) where
 
   pub end_26 : not p.broken ≡ false → q + 1 < length c → Finishes c q p (Refused 26 (q + 1))
   unfolding answer_of
-  end_26 e h g f b = rw (sym b ∙ not_false p.broken e, lt-ltb _ _ h)
+  end_26 e h g f b = rw (sym b ∙ not-false p.broken e, lt-ltb _ _ h)
 
   pub end_confirmed : not p.broken ≡ false → length c ≤ q + 1 → Finishes c q p (Confirmed p.first)
   unfolding answer_of
-  end_confirmed e h g f b = rw (sym b ∙ not_false p.broken e, le_ltb _ _ h, f)
+  end_confirmed e h g f b = rw (sym b ∙ not-false p.broken e, le-ltb _ _ h, f)
 
   pub end_past : not p.broken ≡ false → length c ≤ q → Finishes c q p (Confirmed p.first)
   end_past e h = end_confirmed e (omega arith)

@@ -6,9 +6,9 @@ use mathlib.Core.Bool.{Bool, true, false}
 use mathlib.Core.List.{List, [], ◌∷◌, ◌++◌}
 use native.Mathlib.Nat.{div-lt_iff_lt-mul, pow-suc}
 use native.Mathlib.Omega.{arith}
-use lib.ListN.{length, get_or, length_append, get_or-append}
+use lib.ListN.{length, get_or, length-append, get_or-append}
 use lib.Dec.{ltb}
-use borrow.Author.Tests.{lt-ltb, le_ltb, ltb-true, ltb-false}
+use borrow.Author.Tests.{lt-ltb, le-ltb, ltb-true, ltb-false}
 use Rattle.base.specs.Lists.{All}
 use Rattle.writing.specs.Decimal.{digit, digits, decimal, read_from, IsDigit, ReadBack}
 
@@ -23,7 +23,7 @@ digits_one k n h = rw (lt-ltb n 10 h, digits)
 
 digits_more : (k n : ℕ) → 10 ≤ n → digits (suc k) n ≡ last (digits k (n / 10)) n
 unfolding digits
-digits_more k n h = rw (le_ltb n 10 h, digits)
+digits_more k n h = rw (le-ltb n 10 h, digits)
 
 -- what holds of one digit, and of one digit more, holds of every number's digits with fuel enough
 module _ (P : ℕ → List ℕ → Type 0)
@@ -76,7 +76,7 @@ few_digits = every (λ n ds. (k : ℕ) → n < 10 ^ suc k → length ds ≤ suc 
     more n ds h f (suc k) i =
         let t : n < 10 ^ suc k * 10 = rw (pow-suc 10 (suc k)) at i in
         let a : length ds ≤ suc k = f k ((div-lt_iff_lt-mul (omega arith)).1 t) in
-        rw (length_append ds (digit (n % 10) ∷ [])) (omega arith)
+        rw (length-append ds (digit (n % 10) ∷ [])) (omega arith)
 
 -- a number of 64 bits has 20 digits at most
 pub digits_fit : (n : ℕ) → n < 2 ^ 64 → length (decimal n) ≤ 20
@@ -119,6 +119,6 @@ read_back = record {
 
     more_first : (n : ℕ) (ds : List ℕ) → 10 ≤ n → First (n / 10) ds → First n (last ds n)
     more_first n ds h f = (
-      rw (length_append ds (digit (n % 10) ∷ [])) (omega arith),
+      rw (length-append ds (digit (n % 10) ∷ [])) (omega arith),
       λ i e. f.1 (omega arith) (sym (get_or-append ds (digit (n % 10) ∷ []) 0 0 f.0) ∙ e),
     )

@@ -6,7 +6,7 @@ use mathlib.Core.List.{List, [], ◌∷◌, ◌++◌, append_assoc}
 use native.Mathlib.Numerals.{add-one}
 use native.Mathlib.Nat.{zero-add, add_assoc}
 use native.Mathlib.Omega.{arith}
-use lib.ListN.{length, get_or, take, drop, set, length_append, length-set}
+use lib.ListN.{length, get_or, take, drop, set, length-append, length-set}
 use lib.Seq.{set_split, append_snoc, take_at, drop_at, drop-drop, length-take-le, paste, paste-zero, paste-suc, take-length}
 use Rattle.writing.specs.Decimal.{digit, decimal}
 use Rattle.writing.specs.Room.{Put}
@@ -23,13 +23,13 @@ pub put_then : (w w₁ w₂ : List ℕ) (at r q : ℕ) (a b : List ℕ) → at +
 put_then w w₁ w₂ at r q a b h p s = record { next = more; stands = stood }
   where
     front : length (take at w ++ a) ≡ r
-    front = length_append (take at w) a ∙ ap (λ (k : ℕ). k + length a) (length-take-le at w (omega arith)) ∙ sym p.next
+    front = length-append (take at w) a ∙ ap (λ (k : ℕ). k + length a) (length-take-le at w (omega arith)) ∙ sym p.next
 
     whole : w₁ ≡ take at w ++ a ++ drop r w
     whole = p.stands ∙ ap (λ (k : ℕ). take at w ++ a ++ drop k w) (sym p.next)
 
     more : q ≡ at + length (a ++ b)
-    more = rw (length_append a b) (omega (arith, p.next, s.next))
+    more = rw (length-append a b) (omega (arith, p.next, s.next))
 
     head : take r w₁ ≡ take at w ++ a
     head = ap (take r) whole ∙ take_at (take at w ++ a) (drop r w) r front
@@ -85,7 +85,7 @@ module _ (w : List ℕ) (at n : ℕ) (fits : at + length (decimal n) ≤ length 
   number_one w' r h p = rw (decimal_one n h) p
 
   longer : 10 ≤ n → length (decimal n) ≡ length (decimal (n / 10)) + 1
-  longer h = ap length (decimal_more n h) ∙ length_append (decimal (n / 10)) (digit (n % 10) ∷ [])
+  longer h = ap length (decimal_more n h) ∙ length-append (decimal (n / 10)) (digit (n % 10) ∷ [])
 
   pub room_tenth : 10 ≤ n → at + length (decimal (n / 10)) ≤ length w
   room_tenth h = omega (arith, longer h)

@@ -5,9 +5,9 @@ use mathlib.Core.Path.{◌≡◌, refl, sym, ap, ◌∙◌}
 use mathlib.Core.List.{List, [], ◌∷◌, ◌++◌}
 use native.Mathlib.Nat.{zero-add}
 use native.Mathlib.Omega.{arith}
-use lib.ListN.{length, take, drop, length_append}
+use lib.ListN.{length, take, drop, length-append}
 use lib.Seq.{length-take-le}
-use borrow.Author.Tests.{lt-ltb, le_ltb}
+use borrow.Author.Tests.{lt-ltb, le-ltb}
 use mir.Syntax.{w64}
 use mir.Val.{Fits}
 use Rattle.writing.specs.Decimal.{decimal}
@@ -18,7 +18,7 @@ use Rattle.writing.proofs.PutLaws.{put_then}
 -- a word, then a number
 module _ (w : List ℕ) (at : ℕ) (word : List ℕ) (n : ℕ) (h : at + length (numbered word n) ≤ length w) where
   long : length (numbered word n) ≡ length word + length (decimal n)
-  long = length_append word (decimal n)
+  long = length-append word (decimal n)
 
   pub word_fits : at + length word ≤ length w
   word_fits = omega (arith, long)
@@ -35,11 +35,11 @@ pub ruleset put_numbered_cases = (word_fits, number_fits, numbered_put)
 -- two words with numbers, and the line feed
 pub pair_length : (a : List ℕ) (n : ℕ) (b : List ℕ) (m : ℕ) → length (pair_line a n b m) ≡ length (numbered a n) + length (numbered b m) + 1
 pair_length a n b m =
-    length_append (numbered a n ++ numbered b m) feed ∙ ap (λ (k : ℕ). k + 1) (length_append (numbered a n) (numbered b m))
+    length-append (numbered a n ++ numbered b m) feed ∙ ap (λ (k : ℕ). k + 1) (length-append (numbered a n) (numbered b m))
 
 pub pair_fits : (a : List ℕ) (n : ℕ) (b : List ℕ) (m : ℕ) → Fits w64 n → Fits w64 m → length (pair_line a n b m) ≤ length a + length b + 41
 pair_fits a n b m f g =
-    omega (arith, pair_length a n b m, length_append a (decimal n), length_append b (decimal m), digits_fit n f.fits, digits_fit m g.fits)
+    omega (arith, pair_length a n b m, length-append a (decimal n), length-append b (decimal m), digits_fit n f.fits, digits_fit m g.fits)
 
 module _ (w a : List ℕ) (n : ℕ) (b : List ℕ) (m : ℕ) (h : length (pair_line a n b m) ≤ length w) where
   pub first_fits : 0 + length (numbered a n) ≤ length w
@@ -56,7 +56,7 @@ module _ (w a : List ℕ) (n : ℕ) (b : List ℕ) (m : ℕ) (h : length (pair_l
       pub pair_put : (w₃ : List ℕ) (k : ℕ) → Put w₂ w₃ j feed k → Put w w₃ 0 (pair_line a n b m) k
       pair_put w₃ k r =
           put_then w w₂ w₃ 0 j k (numbered a n ++ numbered b m) feed
-          (omega (arith, pair_length a n b m, length_append (numbered a n) (numbered b m)))
+          (omega (arith, pair_length a n b m, length-append (numbered a n) (numbered b m)))
           (put_then w w₁ w₂ 0 i j (numbered a n) (numbered b m) first_fits p q) r
 
 pub ruleset put_pair_cases = (first_fits, second_fits, feed_fits, pair_put)
@@ -67,9 +67,9 @@ too_short text w h = record { count = simp (lt-ltb _ _ h); stands = simp (lt-ltb
 
 pub lined : (text w w' : List ℕ) (r : ℕ) → enough ≤ length w → Put w w' 0 text r → Lined text w w' r
 lined text w w' r h p = record {
-  count = simp (le_ltb _ _ h) (p.next ∙ zero-add (length text));
-  stands = simp (le_ltb _ _ h) at_front;
-  inside = omega (arith, ap length at_front, length_append text (drop (length text) w), p.next);
+  count = simp (le-ltb _ _ h) (p.next ∙ zero-add (length text));
+  stands = simp (le-ltb _ _ h) at_front;
+  inside = omega (arith, ap length at_front, length-append text (drop (length text) w), p.next);
 }
   where
     at_front : w' ≡ text ++ drop (length text) w
