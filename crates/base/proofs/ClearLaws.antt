@@ -1,10 +1,10 @@
 -- Clearing lent places: the loop's invariant, and what cleared places hold.
 -- Assumes nothing.
 use Prim.Native.Nat.{ℕ, zero, suc, ◌+◌, ◌≤◌, ◌<◌}
-use mathlib.Core.Path.{◌≡◌, refl, sym, ap, ◌∙◌}
+use mathlib.Core.Path.{◌≡◌, refl, ap, ◌∙◌}
 use mathlib.Core.List.{List, [], ◌++◌}
 use native.Mathlib.Omega.{arith}
-use lib.ListN.{length, drop, get_or, set, replicate, length-append, length-drop, length-replicate, length-set, get_or-replicate, get_or-append, get_or-eq_default}
+use lib.ListN.{length, drop, get_or, set, replicate, length-append, length-drop, length-replicate, length-set, get_or-replicate, get_or-append}
 use lib.Seq.{drop_at, drop-length}
 use borrow.Author.Fill.{fill_none, fill_more}
 use Rattle.base.specs.Lists.{fresh}

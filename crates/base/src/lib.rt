@@ -1,4 +1,6 @@
 // What the other crates share: clearing lent places. The definitions and laws are in specs/ and proofs/.
+#![tactic(auto)]
+
 ghost use Rattle.std.specs.Prelude.{◌≡◌, ◌≤◌, length};
 ghost use Rattle.base.specs.Lists.{fresh};
 

@@ -1,4 +1,6 @@
 // The checker: any sheet bytes, any certificate bytes and a lent workspace; accepted, confirmed or refused.
+#![tactic(auto)]
+
 mod judged;
 mod refuted;
 mod traced;

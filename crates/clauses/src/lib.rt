@@ -1,4 +1,6 @@
 // The clause sets of a good sheet and an invariant, three places a clause.
+#![tactic(auto)]
+
 mod formula;
 mod gates;
 mod rungs;

@@ -1,4 +1,6 @@
 // The translator as a program: its arguments are a set's number, a sheet file and a certificate file, and it prints the set as DIMACS.
+#![tactic(auto)]
+
 ghost use Rattle.std.specs.Prelude.{◌≡◌, ◌+◌, ◌*◌, ◌≤◌, length};
 ghost use Rattle.dimacs.specs.Dimacs.{largest_set};
 ghost use Rattle.files.specs.Files.{base_bounds};

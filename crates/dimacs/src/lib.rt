@@ -1,4 +1,6 @@
 // A clause set as DIMACS text, line by line out of the translator's places.
+#![tactic(auto)]
+
 ghost use Rattle.std.specs.Prelude.{◌≡◌, [], ◌∷◌, ◌++◌, ◌+◌, ◌*◌, ◌/◌, ◌≤◌, length};
 ghost use Rattle.rules.specs.Clauses.{Lit.plain, Lit.negated};
 ghost use Rattle.solving.specs.Places.{unplace};

@@ -1,4 +1,6 @@
 // What the program's line means: it takes the same two arguments, writes the line, and then says why in plain words.
+#![tactic(auto)]
+
 mod reasons;
 mod say;
 mod spots;

@@ -1,4 +1,6 @@
 // The functions for other languages: an answer is a number, and what goes with it is written through references.
+#![tactic(auto)]
+
 ghost use Rattle.rules.specs.Head.{base_limits};
 ghost use Rattle.export.specs.Exported.{CheckExported, TranslateExported};
 

@@ -1,4 +1,6 @@
 // What the program says of two files' bytes: one that is too long is refused, the rest is the checker's.
+#![tactic(auto)]
+
 ghost use Rattle.rules.specs.Head.{base_limits};
 ghost use Rattle.files.specs.Files.{base_bounds, Judged, Translates, CutIsEnough};
 

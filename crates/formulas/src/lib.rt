@@ -1,4 +1,6 @@
 // A formula record at an offset of bytes.
+#![tactic(auto)]
+
 ghost use Rattle.std.specs.Prelude.{◌≡◌, drop};
 ghost use Rattle.formulas.specs.Part.{part_of, length_of};
 

@@ -1,4 +1,6 @@
 // The program: it reads the sheet file and the certificate file that its two arguments name, and writes one line.
+#![tactic(auto)]
+
 ghost use Rattle.std.specs.Prelude.{◌≡◌, ◌+◌, ◌≤◌, length};
 ghost use Rattle.files.specs.Files.{base_bounds};
 ghost use Rattle.writing.specs.Room.{enough, Lined};

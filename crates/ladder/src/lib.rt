@@ -1,4 +1,6 @@
 // The scan: a formula's value from its bytes, the rungs in order, and the condition after them.
+#![tactic(auto)]
+
 mod within;
 
 ghost use Rattle.std.specs.Prelude.{◌≡◌, ◌&&◌, ◌||◌, not, ◌+◌, ◌<◌, length};

@@ -1,4 +1,6 @@
 // The program's line for an answer, byte by byte.
+#![tactic(auto)]
+
 ghost use Rattle.std.specs.Prelude.{◌≤◌, length};
 ghost use Rattle.rules.specs.Verdict.{answer_of};
 ghost use Rattle.writing.specs.Room.{enough, Put, Lined};

@@ -1,4 +1,6 @@
 // The file that one of the program's arguments names, read into lent bytes.
+#![tactic(auto)]
+
 ghost use Rattle.std.specs.Prelude.{length, ◌≤◌};
 ghost use Rattle.loading.specs.Loading.{Holds};
 

@@ -1,5 +1,7 @@
 // Demands 1 and 2 of the rules' own answer, and what they rest on: each contract is a theorem, and there is nothing to run.
 // The statements are in specs/Statements.antt and specs/Grounds.antt.
+#![tactic(auto)]
+
 ghost use Rattle.proving.specs.Statements.{Short, AcceptedClipped, ConfirmedClipped};
 ghost use Rattle.proving.specs.Statements.{AcceptedExactly, AcceptedSafe, ConfirmedExactly, NeverBoth};
 ghost use Rattle.proving.specs.Grounds.{ResolventRight, RuleSettles, DeriveExactly, RunsAlike, StepsExactly, RefutedUnsolvable, UnsolvableSafe};

@@ -1,4 +1,6 @@
 // A reader that holds the lent bytes and its place: thin functions over it, and above them functions of a slice and a number.
+#![tactic(auto)]
+
 ghost use Rattle.std.specs.Prelude.{◌≡◌};
 ghost use Rattle.records.specs.Found.{record_at};
 

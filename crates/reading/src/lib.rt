@@ -1,4 +1,6 @@
 // The readings of sheets, certificates and traces: well formed means something without the reader. There is nothing to run.
+#![tactic(auto)]
+
 ghost use Rattle.reading.specs.Sheets.{SheetExactly, Clipped};
 ghost use Rattle.reading.specs.Traces.{TraceExactly, TraceClipped};
 ghost use Rattle.reading.specs.Certificates.{CertificateExactly, CertificateClipped};

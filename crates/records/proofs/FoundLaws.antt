@@ -1,16 +1,14 @@
 -- What stands at an offset, by the tests of the code.
 -- Assumes nothing.
-use Prim.Native.Nat.{ℕ, suc, ◌+◌, ◌-◌, ◌*◌, ◌≤◌, ◌<◌}
-use mathlib.Core.Path.{◌≡◌, refl, sym, ap, ◌∙◌}
-use mathlib.Core.List.{List, [], ◌∷◌}
-use native.Mathlib.Numerals.{add-one}
+use Prim.Native.Nat.{ℕ, suc, ◌+◌, ◌-◌, ◌≤◌, ◌<◌}
+use mathlib.Core.Path.{◌≡◌, sym, ap, ◌∙◌}
+use mathlib.Core.List.{List}
 use native.Mathlib.Omega.{arith}
-use lib.ListN.{length, get_or, drop, length-drop, drop_of_length-le, get_or-eq_default}
+use lib.ListN.{length, get_or, length-drop, drop_of_length-le, get_or-eq_default}
 use lib.Seq.{drop-cons, get_or-drop}
-use borrow.Author.Tests.{le-leb, lt-leb, eq-eqb, ne_eqb}
-use Rattle.rules.specs.Record.{Front, Front.nothing, Front.unknown, Front.cut, Front.whole, body_length, front, record_length, number}
+use borrow.Author.Tests.{le-leb, lt-leb, ne_eqb}
+use Rattle.rules.specs.Record.{body_length, front, record_length}
 use Rattle.records.specs.Found.{found, record_at, byte_at, number_at}
-use Rattle.records.specs.declared.Found.{Found}
 use Rattle.records.specs.declared.Found.TheVariants.{Nothing, NoKind, Cut, Whole}
 
 module _ (s : List ℕ) (p : ℕ) where

@@ -1,6 +1,6 @@
 -- What the code found at an offset, as what stands at the front of the bytes from there on.
 -- Assumes nothing.
-use Prim.Native.Nat.{ℕ, suc, ◌+◌, ◌-◌, ◌≤◌, ◌<◌}
+use Prim.Native.Nat.{ℕ, suc, ◌+◌, ◌≤◌, ◌<◌}
 use mathlib.Core.Path.{◌≡◌, refl, sym, ap, ◌∙◌}
 use mathlib.Core.Bool.{Bool, true, false}
 use mathlib.Core.List.{List, [], ◌∷◌}
@@ -11,9 +11,8 @@ use lib.Dec.{leb, eqb}
 use borrow.Author.Tests.{leb-true}
 use Rattle.base.specs.Pick.{pick}
 use Rattle.rules.specs.Record.{Front, Front.nothing, Front.unknown, Front.cut, Front.whole, body_length, front, record_length, one_of}
-use Rattle.rules.specs.Walk.{Move, Move.no, Reader, move_at, past}
+use Rattle.rules.specs.Walk.{Move.no, Reader, move_at, past}
 use Rattle.records.specs.Found.{found, record_at}
-use Rattle.records.specs.declared.Found.{Found}
 use Rattle.records.specs.declared.Found.TheVariants.{Nothing, NoKind, Cut, Whole}
 
 clash : {A : Type 0} → ◌≡◌ {A = ℕ} 0 1 → A

@@ -1,4 +1,6 @@
 // Records: one byte of kind, then a body whose length the kind fixes; what stands at any offset of any bytes.
+#![tactic(auto)]
+
 ghost use Rattle.std.specs.Prelude.{◌≡◌};
 ghost use Rattle.rules.specs.Record.{body_length};
 ghost use Rattle.records.specs.Found.{record_at, byte_at, number_at};

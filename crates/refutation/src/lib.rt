@@ -1,4 +1,6 @@
 // STEP and QED over clauses in lent memory.
+#![tactic(auto)]
+
 mod codes;
 mod marks;
 

@@ -1,13 +1,10 @@
 -- A head's range test, by the tests of the code.
 -- Assumes nothing.
 use Prim.Native.Nat.{ℕ, ◌≤◌, ◌<◌}
-use mathlib.Core.Path.{◌≡◌, refl, ap}
-use mathlib.Core.Bool.{Bool, true, false, ◌&&◌, and-false}
-use lib.Dec.{leb}
+use mathlib.Core.Path.{◌≡◌}
+use mathlib.Core.Bool.{and-false}
 use borrow.Author.Tests.{le-leb, lt-leb}
-use Rattle.base.specs.Pick.{pick}
 use Rattle.rules.specs.declared.Limits.{Limits}
-use Rattle.rules.specs.declared.Headed.{Headed}
 use Rattle.rules.specs.declared.Headed.TheVariants.{Fits, OutOfRange}
 use Rattle.rules.specs.Head.{head_fits, headed}
 

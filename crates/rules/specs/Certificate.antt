@@ -1,5 +1,5 @@
 -- Certificates and traces, and their reading.
-use Rattle.std.specs.Prelude.{ℕ, ◌+◌, Bool, true, false, List, [], ◌∷◌, ◌++◌, length, get_or, drop, ltb, leb, eqb}
+use Rattle.std.specs.Prelude.{ℕ, ◌+◌, List, [], ◌∷◌, ◌++◌, length, drop, ltb, leb, eqb}
 use Rattle.base.specs.Pick.{pick}
 use Rattle.rules.specs.declared.Limits.{Limits}
 use Rattle.rules.specs.Kind
@@ -7,7 +7,7 @@ use Rattle.rules.specs.Record.{number, one_of}
 use Rattle.rules.specs.Walk.{Move, Move.go, Move.mark, Move.no, Move.done, Reader, Reading, reading}
 use Rattle.rules.specs.Formula.{Inputs, Formula}
 use Rattle.rules.specs.Sheet.{Sheet}
-use Rattle.rules.specs.ReadFormula.{Faults, certificate_faults, Bounds, Stack, empty, operand, Pushed.fine, Pushed.fault, formula_record}
+use Rattle.rules.specs.ReadFormula.{certificate_faults, Bounds, Stack, empty, operand, Pushed.fine, Pushed.fault, formula_record}
 use Rattle.rules.specs.ReadSheet.{one}
 
 -- a STEP names two clauses and a pivot

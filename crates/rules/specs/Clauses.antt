@@ -1,5 +1,5 @@
 -- Variables, defining clauses, the three clause sets and their three places a clause.
-use Rattle.std.specs.Prelude.{ℕ, zero, suc, ◌+◌, ◌-◌, ◌*◌, Bool, true, false, List, [], ◌∷◌, ◌++◌, map, length, get_or}
+use Rattle.std.specs.Prelude.{ℕ, zero, suc, ◌+◌, ◌-◌, ◌*◌, true, false, List, [], ◌∷◌, ◌++◌, map, get_or}
 use Rattle.base.specs.Pick.{pick}
 use Rattle.base.specs.Lists.{each}
 use Rattle.rules.specs.Formula.{Leaf, Leaf.input, Leaf.coil, Leaf.constant, Formula, Formula.leaf, Formula.inverse, Formula.both, Formula.either, size}

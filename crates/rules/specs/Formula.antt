@@ -1,5 +1,5 @@
 -- Formulas as trees, what they mean, and their records in postfix order.
-use Rattle.std.specs.Prelude.{ℕ, ◌+◌, ◌<◌, max, Bool, true, false, not, ◌&&◌, ◌||◌, List, [], ◌∷◌, ◌++◌, length, get_or}
+use Rattle.std.specs.Prelude.{ℕ, ◌+◌, max, Bool, not, ◌&&◌, ◌||◌, List, [], ◌∷◌, ◌++◌}
 
 -- inputs and coils count from 0
 abbrev pub Inputs : Type 0

@@ -1,5 +1,5 @@
 -- The kinds of records, by their names.
-use Rattle.std.specs.Prelude.{ℕ, List, [], ◌∷◌}
+use Rattle.std.specs.Prelude.{ℕ}
 
 abbrev pub HEAD : ℕ
 HEAD = 0x01

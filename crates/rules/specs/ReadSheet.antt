@@ -1,15 +1,15 @@
 -- Reading a sheet: HEAD; STARTs with rising coils; each rung as a formula, then RUNG; the condition as a formula,
 -- then CONDITION; END. The sheet is built as its records are walked.
-use Rattle.std.specs.Prelude.{ℕ, ◌+◌, Bool, true, false, ◌&&◌, ◌||◌, List, [], ◌∷◌, ◌++◌, length, get_or, ltb, leb, eqb}
+use Rattle.std.specs.Prelude.{ℕ, ◌+◌, Bool, false, ◌&&◌, ◌||◌, List, [], ◌∷◌, ◌++◌, length, get_or, ltb, leb, eqb}
 use Rattle.base.specs.Pick.{pick}
 use Rattle.rules.specs.declared.Limits.{Limits}
 use Rattle.rules.specs.Head.{head_fits}
 use Rattle.rules.specs.Kind
-use Rattle.rules.specs.Record.{number, one_of}
+use Rattle.rules.specs.Record.{number}
 use Rattle.rules.specs.Walk.{Refusal, ◌at◌, Move, Move.go, Move.no, Move.done, Reader, Reading, Reading.stopped, Reading.marked, Reading.closed, reading}
 use Rattle.rules.specs.Formula.{Leaf.constant, Formula, Formula.leaf}
 use Rattle.rules.specs.Sheet.{Start, Rung, Sheet}
-use Rattle.rules.specs.ReadFormula.{Faults, sheet_faults, Bounds, formula_kinds, Stack, empty, operand, Pushed.fine, Pushed.fault, formula_record}
+use Rattle.rules.specs.ReadFormula.{sheet_faults, Bounds, formula_kinds, Stack, empty, operand, Pushed.fine, Pushed.fault, formula_record}
 
 -- where a sheet's reading stands
 pub data Spot : Type 0 where

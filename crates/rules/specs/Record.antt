@@ -1,5 +1,5 @@
 -- Records: one byte of kind, then a body whose length the kind fixes; numbers are two bytes, low byte first.
-use Rattle.std.specs.Prelude.{ℕ, ◌+◌, ◌*◌, ◌/◌, ◌%◌, List, [], ◌∷◌, Bool, true, false, ◌||◌, length, get_or, leb, eqb}
+use Rattle.std.specs.Prelude.{ℕ, ◌+◌, ◌*◌, ◌/◌, ◌%◌, List, [], ◌∷◌, Bool, false, ◌||◌, length, get_or, leb, eqb}
 use Rattle.base.specs.Pick.{pick}
 use Rattle.rules.specs.Kind
 

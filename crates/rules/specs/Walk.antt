@@ -1,8 +1,8 @@
 -- Bytes run left to right, and the first fault wins. Where several hold for one record:
 -- nothing left, kind (unknown or not allowed here), body cut, then what the reader itself finds.
-use Rattle.std.specs.Prelude.{ℕ, zero, suc, ◌+◌, List, Bool, length, get_or, drop}
+use Rattle.std.specs.Prelude.{ℕ, zero, suc, ◌+◌, List, length, get_or, drop}
 use Rattle.base.specs.Pick.{pick}
-use Rattle.rules.specs.Record.{Front, Front.nothing, Front.unknown, Front.cut, Front.whole, front, record_length, one_of}
+use Rattle.rules.specs.Record.{Front.nothing, Front.unknown, Front.cut, Front.whole, front, record_length, one_of}
 
 -- a refusal: its number, and the offset of the kind byte at fault, or the length where no byte is left
 pub record Refusal : Type 0 where

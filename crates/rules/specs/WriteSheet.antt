@@ -1,5 +1,5 @@
 -- Well formed, without a reader: the bytes of a sheet, and what it is to be within the limits.
-use Rattle.std.specs.Prelude.{ℕ, ◌+◌, ◌≤◌, ◌<◌, ◌≡◌, Bool, true, false, List, [], ◌∷◌, ◌++◌, map, length, get_or}
+use Rattle.std.specs.Prelude.{ℕ, ◌+◌, ◌≤◌, ◌<◌, ◌≡◌, Bool, false, List, [], ◌∷◌, ◌++◌, map, length, get_or}
 use Rattle.base.specs.Pick.{pick}
 use Rattle.base.specs.Lists.{All, each}
 use Rattle.rules.specs.declared.Limits.{Limits}

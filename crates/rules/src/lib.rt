@@ -1,4 +1,6 @@
 // The rules: the sheet's own type with its limits, and the answers. The definitions are in specs/.
+#![tactic(auto)]
+
 ghost use Rattle.std.specs.Prelude.{◌≡◌};
 ghost use Rattle.rules.specs.Head.{base_limits, headed};
 ghost use Rattle.rules.specs.Samples.{Hold};

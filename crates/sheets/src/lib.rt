@@ -1,4 +1,6 @@
 // Reading a sheet, and the opening record and the invariant of a certificate: any bytes at all.
+#![tactic(auto)]
+
 mod certificate;
 mod draft;
 mod formula;

@@ -1,4 +1,6 @@
 // Demand 3, the translation loses nothing and adds nothing: theorems about the rules, and nothing to run.
+#![tactic(auto)]
+
 ghost use Rattle.solving.specs.Statements.{RecordsEnd, ExtendsOnce, Parts, StartSet, KeepSet, SafeSet, InputsDoNotMatter, PlacesLoseNothing, SetsPlaceable};
 
 // The value that is computed for a record is that of the sub-formula that ends there.

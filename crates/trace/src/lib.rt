@@ -1,4 +1,6 @@
 // A trace is read and replayed at once: the first fault wins, and confirmed names the first scan that broke the condition.
+#![tactic(auto)]
+
 ghost use Rattle.std.specs.Prelude.{◌≡◌, ◌≤◌, ◌<◌, length};
 ghost use Rattle.ladder.specs.Scan.{LadderAt};
 ghost use Rattle.ladder.specs.Evaluate.{bounds_for};

@@ -1,4 +1,6 @@
 // Bytes, numbers and lines put into a lent room.
+#![tactic(auto)]
+
 ghost use Rattle.std.specs.Prelude.{[], ◌∷◌, ◌+◌, ◌≤◌, ◌<◌, length};
 ghost use Rattle.writing.specs.Decimal.{decimal, ReadBack};
 ghost use Rattle.writing.specs.Room.{numbered, pair_line, Put};
