@@ -14,14 +14,14 @@ ghost use Rattle.clauses.specs.Translated.{Translated};
 use rules::{Sheet, Written};
 
 // What a formula record does: it goes on, with a stack so high and the number of the next clause, or closes the formula.
-#[derive(Drop)]
+#[derive(Clone, Copy)]
 pub enum Step {
     On { depth: usize, n: usize },
     Closed,
 }
 
 // How far clauses are written: the place after the records, the next record's variable, and the number of the next clause.
-#[derive(Drop)]
+#[derive(Clone, Copy)]
 pub struct Wrote {
     pub at: usize,
     pub g: u16,
@@ -29,14 +29,14 @@ pub struct Wrote {
 }
 
 // A coil's start value, and the place of the START record that comes next.
-#[derive(Drop)]
+#[derive(Clone, Copy)]
 pub struct Begun {
     pub on: bool,
     pub at: usize,
 }
 
 // What a sheet's clauses start from: its inputs, coils and rungs, and the place of its first rung.
-#[derive(Drop)]
+#[derive(Clone, Copy)]
 pub struct Layout {
     pub inputs: u16,
     pub coils: u16,

@@ -5,7 +5,7 @@ ghost use Rattle.std.specs.Prelude.{◌≡◌, drop};
 ghost use Rattle.formulas.specs.Part.{part_of, length_of};
 
 // A formula record, or a record that closes the formula (so for any other byte, and where none is left).
-#[derive(Drop)]
+#[derive(Clone, Copy)]
 pub enum Part {
     Input(u16),
     Coil(u16),

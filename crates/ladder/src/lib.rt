@@ -88,7 +88,7 @@ fn apply(part: Part, inputs: &[u16], coils: &[u16], stack: &mut [u16], depth: us
 }
 
 // A formula's value, and the place of the record that closes it.
-#[derive(Drop)]
+#[derive(Clone, Copy)]
 pub struct Evaluated {
     pub on: bool,
     pub at: usize,
@@ -187,7 +187,7 @@ pub fn initialise(s: &[u8], from: usize, starts: usize, coils: &mut [u16])
 }
 
 // The public scan's answer: whether the condition holds after it, or why there was none.
-#[derive(Drop)]
+#[derive(Clone, Copy)]
 pub enum Scanned {
     Done { holds: bool },
     Refused { no: u8, place: usize },

@@ -6,7 +6,7 @@ ghost use Rattle.records.specs.Found.{record_at};
 
 use records::Found;
 
-#[derive(Drop)]
+#[derive(Clone, Copy)]
 pub struct Reader<'a> {
     pub src: &'a [u8],
     pub at: usize,

@@ -44,7 +44,7 @@ pub fn body_length(kind: u8) -> u8
 }
 
 // What stands at an offset: nothing is left, no such kind, a body that is cut, or a whole record and where the next begins.
-#[derive(Drop)]
+#[derive(Clone, Copy)]
 pub enum Found {
     Nothing,
     NoKind,

@@ -16,21 +16,21 @@ use records::Found;
 use rules::{Answer, Limits};
 
 // What a STEP does: it derives a clause, the empty one or another, or it is refused with a number.
-#[derive(Drop)]
+#[derive(Clone, Copy)]
 pub enum Derived {
     Clause { empty: bool },
     Fault(u8),
 }
 
 // What a refutation comes to: the place after its QED, or a refusal.
-#[derive(Drop)]
+#[derive(Clone, Copy)]
 pub enum Refuted {
     Done { at: usize },
     Fault { no: u8, place: usize },
 }
 
 // Where a clause's places are.
-#[derive(Drop)]
+#[derive(Clone, Copy)]
 enum Spot {
     At { start: usize, count: usize },
     Nowhere,

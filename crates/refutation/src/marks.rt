@@ -5,7 +5,7 @@ ghost use Rattle.refutation.specs.Judging.{mark_whole, mark_cut, mark_at};
 use records::Found;
 
 // A record where STEP and QED are allowed, with the place after it, or a refusal's number.
-#[derive(Drop)]
+#[derive(Clone, Copy)]
 pub(crate) enum Mark {
     Step {
         first: u16,

@@ -6,7 +6,7 @@ ghost use Rattle.rules.specs.Head.{base_limits, headed};
 ghost use Rattle.rules.specs.Samples.{Hold};
 
 // The limits that a sheet, a certificate and a trace keep to, and the workspace they are checked in.
-#[derive(Drop)]
+#[derive(Clone, Copy)]
 pub struct Limits {
     pub inputs: usize,
     pub coils: usize,
@@ -21,7 +21,7 @@ pub struct Limits {
 }
 
 // A sheet's head that passed its range test.
-#[derive(Drop)]
+#[derive(Clone, Copy)]
 pub struct Sheet {
     pub inputs: usize,
     pub coils: usize,
@@ -29,7 +29,7 @@ pub struct Sheet {
 }
 
 // The checker's answer.
-#[derive(Drop)]
+#[derive(Clone, Copy)]
 pub enum Answer {
     Accepted,
     Confirmed { scan: usize },
@@ -37,14 +37,14 @@ pub enum Answer {
 }
 
 // The translator's answer: how many clauses it wrote, or why none.
-#[derive(Drop)]
+#[derive(Clone, Copy)]
 pub enum Written {
     Clauses { count: usize },
     Withheld { no: u8, place: usize },
 }
 
 // What a head's three numbers are found to be.
-#[derive(Drop)]
+#[derive(Clone, Copy)]
 pub enum Headed {
     Fits(Sheet),
     OutOfRange,

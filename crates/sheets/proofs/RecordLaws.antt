@@ -45,12 +45,12 @@ module _ (d : Kept) (t : Sheet) (fs : List Formula) where
   at_start at_rungs h y = never h
   at_start at_end h y = never h
 
-  at_end : (x : Spot) → one_of (spot_kinds x) 0x2F ≡ true → Laid x d t fs → Ending d t
+  at_end_lem : (x : Spot) → one_of (spot_kinds x) 0x2F ≡ true → Laid x d t fs → Ending d t
   unfolding spot_kinds Laid
-  at_end at_head h y = never h
-  at_end at_starts h y = never h
-  at_end at_rungs h y = never h
-  at_end at_end h y = y
+  at_end_lem at_head h y = never h
+  at_end_lem at_starts h y = never h
+  at_end_lem at_rungs h y = never h
+  at_end_lem at_end h y = y
 
   at_rung : (x : Spot) → one_of (spot_kinds x) 0x20 ≡ true → Laid x d t fs → Running d t fs
   unfolding spot_kinds Laid
@@ -140,7 +140,7 @@ module _ (l : Limits) (s m : List ℕ) (d : Kept) (k next : ℕ) (a : Bool) (ea 
     whole_end e t st q =
         moves m t Done (done t.sheet) st (rw e)
         (record {
-          after = record { moved = refl; ending = at_end d t.sheet t.stack.values t.spot (fits_at 0x2F e t st) st.laid };
+          after = record { moved = refl; ending = at_end_lem d t.sheet t.stack.values t.spot (fits_at 0x2F e t st) st.laid };
           rest = refl;
         })
 

@@ -15,7 +15,7 @@ use records::Found;
 use rules::Limits;
 
 // What a formula may name, and how large it may grow.
-#[derive(Drop)]
+#[derive(Clone, Copy)]
 pub struct Scope {
     pub inputs: usize,
     pub coils: usize,
@@ -24,7 +24,7 @@ pub struct Scope {
 }
 
 // The refusals of a formula record, in the order in which they are tried.
-#[derive(Drop)]
+#[derive(Clone, Copy)]
 pub struct Numbers {
     pub range: u8,
     pub operands: u8,
@@ -33,14 +33,14 @@ pub struct Numbers {
 }
 
 // What the code keeps of a stack of formulas: its height, and how many formula records were read.
-#[derive(Drop)]
+#[derive(Clone, Copy)]
 pub struct Pile {
     pub depth: usize,
     pub count: usize,
 }
 
 // What a formula record does to it.
-#[derive(Drop)]
+#[derive(Clone, Copy)]
 pub enum Added {
     Fine(Pile),
     Fault(u8),
@@ -48,7 +48,7 @@ pub enum Added {
 
 // What the code keeps of a draft: where the reading stands (0 the head, 1 the starts, 2 the rungs, 3 the end), the offset of
 // the next record, heights and counts, and the offsets past the last START and past the last RUNG.
-#[derive(Drop)]
+#[derive(Clone, Copy)]
 pub struct Kept {
     pub spot: u8,
     pub at: usize,
@@ -64,7 +64,7 @@ pub struct Kept {
 }
 
 // What a record of a sheet does.
-#[derive(Drop)]
+#[derive(Clone, Copy)]
 pub enum Step {
     Go(Kept),
     No(u8),
@@ -72,7 +72,7 @@ pub enum Step {
 }
 
 // What is kept of a good sheet: its numbers, and the offsets where its rungs and where its condition begin.
-#[derive(Drop)]
+#[derive(Clone, Copy)]
 pub struct Outline {
     pub inputs: usize,
     pub coils: usize,
@@ -82,7 +82,7 @@ pub struct Outline {
 }
 
 // A sheet, or why not.
-#[derive(Drop)]
+#[derive(Clone, Copy)]
 pub enum SheetAnswer {
     Good(Outline),
     Bad { no: u8, place: usize },
@@ -154,7 +154,7 @@ pub fn read_sheet(l: Limits, s: &[u8], marks: &mut [u16]) -> SheetAnswer
 }
 
 // What a record of an invariant does.
-#[derive(Drop)]
+#[derive(Clone, Copy)]
 pub enum Turn {
     Go(Pile, usize),
     No(u8),
@@ -162,7 +162,7 @@ pub enum Turn {
 }
 
 // Where INVARIANT stands and how many formula records are before it, or why not.
-#[derive(Drop)]
+#[derive(Clone, Copy)]
 pub enum InvariantAnswer {
     Good { end: usize, size: usize },
     Bad { no: u8, place: usize },
@@ -195,7 +195,7 @@ pub fn read_invariant(l: Limits, coils: usize, c: &[u8]) -> InvariantAnswer
 }
 
 // The first record of a certificate.
-#[derive(Drop)]
+#[derive(Clone, Copy)]
 pub enum Opened {
     Safe,
     Trace,

@@ -11,7 +11,7 @@ use rules::{Answer, Limits};
 
 // A replay under way: the lowest input that may be named next (0 where none was named since the last SCAN), the scans so far,
 // the first that broke the condition (0 for none), and whether the last did.
-#[derive(Drop)]
+#[derive(Clone, Copy)]
 pub struct Play {
     pub least: usize,
     pub count: usize,
@@ -20,7 +20,7 @@ pub struct Play {
 }
 
 // Where a sheet's rungs begin, how many there are, and how many inputs it has.
-#[derive(Drop)]
+#[derive(Clone, Copy)]
 pub struct Ladder {
     pub from: usize,
     pub rungs: usize,
@@ -28,7 +28,7 @@ pub struct Ladder {
 }
 
 // What a record does to a replay.
-#[derive(Drop)]
+#[derive(Clone, Copy)]
 pub enum Step {
     Go(Play),
     No(u8),

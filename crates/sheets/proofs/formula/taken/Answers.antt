@@ -1,0 +1,18 @@
+use Rattle.std.proofs.Common.{rules}
+use Rattle.sheets.proofs.PileLaws.{taken_cases}
+use Rattle.sheets.proofs.formula.taken.Goals as goal
+
+pub returns-in-16 : goal.returns-in-16
+returns-in-16 c = search (rules, taken_cases)
+
+pub returns-in-17 : goal.returns-in-17
+returns-in-17 c = search (rules, taken_cases)
+
+pub returns-in-18 : goal.returns-in-18
+returns-in-18 c = search (rules, taken_cases)
+
+pub returns-in-19 : goal.returns-in-19
+returns-in-19 c = search (rules, taken_cases)
+
+pub returns-in_default : goal.returns-in_default
+returns-in_default c = search (rules, taken_cases)

@@ -1,0 +1,34 @@
+use Rattle.std.proofs.Common.{rules}
+use Prim.Native.Nat.{◌-◌}
+use Rattle.writing.proofs.PutLaws.{put_text_cases}
+use Rattle.writing.proofs.put_text.Goals as goal
+
+pub loop-i-init : goal.loop-i-init
+loop-i-init c = search (rules, put_text_cases)
+
+pub bounds-text-i : goal.bounds-text-i
+bounds-text-i c = search (rules, put_text_cases)
+
+pub overflow_add-out : goal.overflow_add-out
+overflow_add-out c = search (rules, put_text_cases)
+
+pub bounds-out-at : goal.bounds-out-at
+bounds-out-at c = search (rules, put_text_cases)
+
+pub overflow_add-i : goal.overflow_add-i
+overflow_add-i c = search (rules, put_text_cases)
+
+pub loop-i-smaller : goal.loop-i-smaller
+loop-i-smaller c = search (rules, put_text_cases)
+
+pub loop-i-preserved : goal.loop-i-preserved
+loop-i-preserved c = search (rules, put_text_cases)
+
+pub overflow_add-result : goal.overflow_add-result
+overflow_add-result c = search (rules, put_text_cases)
+
+pub shape_of-out : goal.shape_of-out
+shape_of-out c = search (rules, put_text_cases)
+
+pub returns : goal.returns
+returns c = search (rules, put_text_cases)
