@@ -1,12 +1,12 @@
 -- The head line and a clause's line, run after run.
 -- Assumes nothing.
-use Prim.Native.Nat.{ℕ, zero, suc, ◌+◌, ◌/◌, ◌%◌, ◌≤◌, ◌<◌}
+use Prim.Native.Nat.{ℕ, ◌+◌, ◌/◌, ◌%◌, ◌≤◌, ◌<◌}
 use mathlib.Core.Path.{◌≡◌, refl, sym, ap, ◌∙◌}
 use mathlib.Core.Bool.{Bool, true, false}
 use mathlib.Core.List.{List, [], ◌∷◌, ◌++◌, append-nil, append_assoc}
 use native.Mathlib.Nat.{add-zero}
 use native.Mathlib.Omega.{arith}
-use lib.ListN.{length, take, length-append}
+use lib.ListN.{length, length-append}
 use lib.Seq.{paste-zero}
 use lib.Dec.{eqb}
 use borrow.Author.Tests.{eq-eqb, ne_eqb, eqb-true, eqb-false}
@@ -16,7 +16,7 @@ use Rattle.base.specs.Lists.{each}
 use Rattle.rules.specs.Clauses.{Lit, Lit.plain, Lit.negated, Clause}
 use Rattle.solving.specs.Places.{unplace}
 use Rattle.writing.specs.Decimal.{decimal}
-use Rattle.writing.specs.Room.{feed, numbered, pair_line, enough, Put}
+use Rattle.writing.specs.Room.{feed, numbered, enough, Put}
 use Rattle.writing.proofs.DecimalLaws.{few_digits}
 use Rattle.writing.proofs.PutLaws.{put_then}
 use Rattle.writing.proofs.RoomLaws.{pair_fits}

@@ -1,5 +1,5 @@
 -- A clause set as DIMACS text: a head line with the counts of variables and clauses, then a line for each clause.
-use Rattle.std.specs.Prelude.{ℕ, zero, suc, ◌+◌, ◌-◌, ◌*◌, ◌/◌, ◌≤◌, ◌≡◌, Bool, ◌&&◌, List, [], ◌∷◌, ◌++◌, length, get_or, leb}
+use Rattle.std.specs.Prelude.{ℕ, zero, suc, ◌+◌, ◌-◌, ◌*◌, ◌/◌, ◌≤◌, ◌≡◌, ◌&&◌, List, [], ◌∷◌, ◌++◌, length, get_or, leb}
 use Rattle.base.specs.Pick.{pick}
 use Rattle.base.specs.Lists.{All, each}
 use Rattle.rules.specs.Formula.{Formula}

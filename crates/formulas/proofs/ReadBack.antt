@@ -1,19 +1,18 @@
 -- A written formula record is found at the front of its bytes, and a byte of another kind closes the formula.
 -- Assumes nothing.
-use Prim.Native.Nat.{ℕ, ◌+◌, ◌*◌, ◌/◌, ◌%◌, ◌<◌}
-use mathlib.Core.Path.{◌≡◌, refl, sym, ap, ◌∙◌}
+use Prim.Native.Nat.{ℕ, ◌+◌, ◌*◌, ◌/◌, ◌%◌}
+use mathlib.Core.Path.{◌≡◌, refl, ap}
 use mathlib.Core.Bool.{Bool, true, false, ◌||◌}
-use mathlib.Core.List.{List, [], ◌∷◌, ◌++◌}
+use mathlib.Core.List.{List, ◌++◌}
 use native.Mathlib.Omega.{arith}
 use lib.ListN.{length, get_or}
 use lib.Dec.{eqb}
-use Rattle.rules.specs.Record.{number, two_bytes, one_of}
+use Rattle.rules.specs.Record.{one_of}
 use Rattle.rules.specs.Formula.{Leaf.input, Leaf.coil, Leaf.constant, Entry, Entry.put, Entry.NOT, Entry.AND, Entry.OR}
 use Rattle.rules.specs.ReadFormula.{formula_kinds}
 use Rattle.rules.specs.WriteSheet.{write_entry}
 use Rattle.formulas.specs.Part.{part_for, entry_for, part_of, length_of}
-use Rattle.formulas.specs.declared.Part.{Part}
-use Rattle.formulas.specs.declared.Part.TheVariants.{Input, Coil, Constant, Not, And, Or, Closing}
+use Rattle.formulas.specs.declared.Part.TheVariants.{Input, Coil, Closing}
 
 -- a number's two bytes are the number
 pub two_bytes_lem : (n : ℕ) → n % 256 + 256 * (n / 256) ≡ n

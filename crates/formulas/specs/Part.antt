@@ -1,5 +1,5 @@
 -- The code's case for the record at the front of bytes.
-use Rattle.std.specs.Prelude.{ℕ, Bool, true, false, List, get_or, eqb}
+use Rattle.std.specs.Prelude.{ℕ, List, get_or, eqb}
 use Rattle.base.specs.Pick.{pick}
 use Rattle.rules.specs.Kind
 use Rattle.rules.specs.Record.{number}

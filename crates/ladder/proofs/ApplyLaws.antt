@@ -1,18 +1,18 @@
 -- Applying a formula record: what each case needs, and what it leaves.
 -- Assumes nothing.
-use Prim.Native.Nat.{ℕ, zero, suc, ◌+◌, ◌-◌, ◌≤◌, ◌<◌}
-use mathlib.Core.Path.{◌≡◌, refl, sym, ap, ◌∙◌}
-use mathlib.Core.Bool.{Bool, true, false, not, ◌&&◌, ◌||◌}
-use mathlib.Core.List.{List, [], ◌∷◌}
+use Prim.Native.Nat.{ℕ, ◌+◌, ◌-◌, ◌≤◌, ◌<◌}
+use mathlib.Core.Path.{◌≡◌, ap, ◌∙◌}
+use mathlib.Core.Bool.{Bool, false, not, ◌&&◌, ◌||◌}
+use mathlib.Core.List.{List, ◌∷◌}
 use native.Mathlib.Omega.{arith}
 use lib.ListN.{length, get_or, drop}
-use Rattle.rules.specs.Formula.{Leaf.input, Leaf.coil, Leaf.constant, Entry.put, Entry.NOT, Entry.AND, Entry.OR, reads}
-use Rattle.rules.specs.ReadFormula.{Bounds, arity}
+use Rattle.rules.specs.Formula.{reads}
+use Rattle.rules.specs.ReadFormula.{arity}
 use Rattle.formulas.specs.Part.{entry_for}
 use Rattle.formulas.specs.declared.Part.{Part}
 use Rattle.formulas.specs.declared.Part.TheVariants.{Input, Coil, Constant, Not, And, Or, Closing}
 use Rattle.ladder.specs.Values.{on, values, act, Put}
-use Rattle.ladder.specs.Evaluate.{Named, Fitting, Applicable, Applied}
+use Rattle.ladder.specs.Evaluate.{Named, Applicable, Applied}
 use Rattle.ladder.proofs.StackLaws.{values_one, values_two}
 
 -- what each case needs

@@ -1,22 +1,19 @@
 -- Evaluating a formula's bytes: the loop's invariant, and its turns.
 -- Assumes nothing.
-use Prim.Native.Nat.{ℕ, zero, suc, ◌+◌, ◌-◌, ◌≤◌, ◌<◌}
+use Prim.Native.Nat.{ℕ, ◌+◌, ◌-◌, ◌≤◌, ◌<◌}
 use mathlib.Core.Path.{◌≡◌, refl, sym, ap, ◌∙◌, subst}
-use mathlib.Core.Bool.{Bool, true, false, not}
 use mathlib.Core.List.{List, [], ◌∷◌, ◌++◌, append_assoc, append-nil}
 use native.Mathlib.Omega.{arith}
-use lib.ListN.{length, get_or, drop, length-append, length-drop}
+use lib.ListN.{length, drop, length-append, length-drop}
 use lib.Seq.{drop-drop, drop-append_seam}
-use lib.Dec.{eqb}
 use Rattle.base.specs.Lists.{each}
-use Rattle.rules.specs.Formula.{Leaf.input, Leaf.coil, Leaf.constant, Formula, Entry, Entry.put, Entry.NOT, Entry.AND, Entry.OR, postfix, value}
-use Rattle.rules.specs.ReadFormula.{Bounds, arity}
-use Rattle.rules.specs.WriteSheet.{write_entry, write_formula, Fits}
+use Rattle.rules.specs.Formula.{Leaf.input, Leaf.coil, Leaf.constant, Entry, Entry.put, Entry.NOT, Entry.AND, Entry.OR, postfix, value}
+use Rattle.rules.specs.ReadFormula.{arity}
+use Rattle.rules.specs.WriteSheet.{write_entry, write_formula}
 use Rattle.formulas.specs.Part.{part_for, entry_for, part_of, length_of}
 use Rattle.formulas.specs.declared.Part.{Part}
 use Rattle.formulas.specs.declared.Part.TheVariants.{Input, Coil, Constant, Not, And, Or, Closing}
 use Rattle.formulas.proofs.ReadBack.{read_back, length_back, entry_back, not_closing, closing_back}
-use Rattle.ladder.specs.declared.Evaluated.{Evaluated}
 use Rattle.ladder.specs.Values.{on, values, act, acts}
 use Rattle.ladder.specs.Evaluate.{Fitting, Applicable, Applied, bounds_for, FormulaAt, EvaluatedAs, Evaluates}
 use Rattle.ladder.proofs.PostfixLaws.{acts_formula, Enough, formula_fits}

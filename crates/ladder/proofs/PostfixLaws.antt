@@ -1,11 +1,11 @@
 -- Running a formula's records puts its value on the stack, and a formula within its bounds can be run.
 -- Assumes nothing.
-use Prim.Native.Nat.{ℕ, zero, suc, ◌+◌, ◌-◌, ◌≤◌, ◌<◌, max}
-use mathlib.Core.Path.{◌≡◌, refl, sym, ap, ◌∙◌}
-use mathlib.Core.Bool.{Bool, true, false}
+use Prim.Native.Nat.{ℕ, ◌+◌, ◌-◌, ◌≤◌}
+use mathlib.Core.Path.{◌≡◌, refl, ◌∙◌}
+use mathlib.Core.Bool.{Bool}
 use mathlib.Core.List.{List, [], ◌∷◌, ◌++◌, append_assoc, append-nil}
 use native.Mathlib.Omega.{arith}
-use Rattle.rules.specs.Formula.{Inputs, Coils, Leaf.input, Leaf.coil, Leaf.constant, Formula, Formula.leaf, Formula.inverse, Formula.both, Formula.either, Entry, Entry.put, Entry.NOT, Entry.AND, Entry.OR, reads, value, postfix, height}
+use Rattle.rules.specs.Formula.{Inputs, Coils, Leaf.input, Leaf.coil, Leaf.constant, Formula, Formula.leaf, Formula.inverse, Formula.both, Formula.either, Entry, Entry.NOT, Entry.AND, Entry.OR, value, postfix, height}
 use Rattle.rules.specs.ReadFormula.{Bounds, arity}
 use Rattle.rules.specs.WriteSheet.{Names, Fits}
 use Rattle.ladder.specs.Values.{act, acts}

@@ -1,24 +1,23 @@
 -- Running the rungs: one rung's turns, and the loop over them.
 -- Assumes nothing.
-use Prim.Native.Nat.{ℕ, zero, suc, ◌+◌, ◌-◌, ◌*◌, ◌/◌, ◌%◌, ◌≤◌, ◌<◌}
+use Prim.Native.Nat.{ℕ, suc, ◌+◌, ◌-◌, ◌≤◌, ◌<◌}
 use mathlib.Core.Path.{◌≡◌, refl, sym, ap, ◌∙◌, subst}
-use mathlib.Core.Bool.{Bool, true, false}
 use mathlib.Core.List.{List, [], ◌∷◌, ◌++◌, append_assoc}
 use native.Mathlib.Omega.{arith}
-use lib.ListN.{length, get_or, drop, set, length-append, length-drop, length-set}
+use lib.ListN.{length, drop, set, length-append, length-drop, length-set}
 use lib.Seq.{drop-drop, drop-append_seam}
 use Rattle.base.specs.Lists.{All, each}
 use Rattle.rules.specs.Kind
 use Rattle.rules.specs.Record.{number, two_bytes}
-use Rattle.rules.specs.Formula.{Formula, value}
+use Rattle.rules.specs.Formula.{value}
 use Rattle.rules.specs.Sheet.{Rung}
-use Rattle.rules.specs.WriteSheet.{write_formula, write_rung, Fits}
+use Rattle.rules.specs.WriteSheet.{write_formula, write_rung}
 use Rattle.records.specs.Found.{number_at}
 use Rattle.formulas.proofs.ReadBack.{two_bytes_lem}
 use Rattle.ladder.specs.declared.Evaluated.{Evaluated}
 use Rattle.ladder.specs.Values.{on, bit_of}
 use Rattle.ladder.specs.Evaluate.{bounds_for, FormulaAt, EvaluatedAs, Evaluates}
-use Rattle.ladder.specs.Scan.{closed_rung, run_places, Runnable, RungAt, RanRung, RunsRung, RungsAt, RanRungs, RunsRungs}
+use Rattle.ladder.specs.Scan.{closed_rung, run_places, Runnable, RungAt, RunsRung, RungsAt, RanRungs, RunsRungs}
 
 -- bytes past the front
 pub drop_front : (s : List ℕ) (p : ℕ) (x y : List ℕ) → drop p s ≡ x ++ y → drop (p + length x) s ≡ y

@@ -1,24 +1,24 @@
 -- One scan over places is one scan over values.
 -- Assumes nothing.
-use Prim.Native.Nat.{ℕ, ◌+◌, ◌<◌}
+use Prim.Native.Nat.{ℕ, ◌<◌}
 use mathlib.Core.Path.{◌≡◌, refl, sym, ap, ◌∙◌, fun_ext}
 use mathlib.Core.Bool.{Bool, true, false, not}
 use mathlib.Core.List.{List, [], ◌∷◌, ◌++◌}
 use native.Mathlib.Omega.{arith}
-use lib.ListN.{length, get_or, drop, set, length-set}
+use lib.ListN.{length, drop, set}
 use lib.Seq.{get_or-set_same, get_or-set_other}
 use lib.Dec.{eqb}
 use borrow.Author.Tests.{eqb-true, eqb-false}
 use Rattle.base.specs.Pick.{pick}
 use Rattle.base.specs.Lists.{All, each}
-use Rattle.rules.specs.Formula.{Formula, value}
-use Rattle.rules.specs.Sheet.{Rung, Sheet, with, run, scan, holds_after}
+use Rattle.rules.specs.Formula.{value}
+use Rattle.rules.specs.Sheet.{Rung, with, run, scan, holds_after}
 use Rattle.rules.specs.ReadFormula.{Bounds}
-use Rattle.rules.specs.WriteSheet.{write_rung, write_formula, Fits}
+use Rattle.rules.specs.WriteSheet.{write_rung, write_formula}
 use Rattle.ladder.specs.declared.Evaluated.{Evaluated}
 use Rattle.ladder.specs.Values.{on, bit_of}
-use Rattle.ladder.specs.Evaluate.{bounds_for, FormulaAt, EvaluatedAs, Evaluates}
-use Rattle.ladder.specs.Scan.{closed_rung, run_places, Runnable, RungsAt, RanRungs, RunsRungs, LadderAt, ScannedOnce, ScansOnce}
+use Rattle.ladder.specs.Evaluate.{bounds_for, FormulaAt, Evaluates}
+use Rattle.ladder.specs.Scan.{closed_rung, run_places, Runnable, RungsAt, RanRungs, RunsRungs, LadderAt, ScansOnce}
 use Rattle.ladder.proofs.RungLaws.{drop_front, closed_length}
 
 bit_on : (b : Bool) → not (eqb (bit_of b) 0) ≡ b

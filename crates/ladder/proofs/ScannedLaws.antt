@@ -14,7 +14,7 @@ use Rattle.rules.specs.declared.Limits.{Limits}
 use Rattle.rules.specs.Head.{base_limits}
 use Rattle.rules.specs.Walk.{◌at◌}
 use Rattle.rules.specs.Sheet.{Sheet}
-use Rattle.rules.specs.ReadSheet.{SheetRead.good, SheetRead.bad, read_sheet}
+use Rattle.rules.specs.ReadSheet.{SheetRead.bad, read_sheet}
 use Rattle.rules.specs.WriteSheet.{write_sheet, WithinSheet, Bytes}
 use Rattle.reading.proofs.SheetKept.{sheet_written}
 use Rattle.sheets.specs.declared.Outline.{Outline}
@@ -23,7 +23,6 @@ use Rattle.sheets.specs.declared.SheetAnswer.TheVariants.{Good, Bad}
 use Rattle.sheets.specs.Answer.{Outlined, Says, ReadAs}
 use Rattle.ladder.specs.declared.Scanned.{Scanned}
 use Rattle.ladder.specs.declared.Scanned.TheVariants.{Done, Refused}
-use Rattle.ladder.specs.Values.{on}
 use Rattle.ladder.specs.Evaluate.{bounds_for}
 use Rattle.ladder.specs.Scan.{LadderAt, ScansOnce}
 use Rattle.ladder.specs.Scanned.{ScanAnswer.done, short, answer_for, coils_for, scan_of, coils_after, scanned_of, ScansSheet, Roomy}

@@ -1,6 +1,6 @@
 -- Where the parts of a good sheet stand in its bytes, and that the lent places are enough for them.
 -- Assumes nothing.
-use Prim.Native.Nat.{ℕ, zero, suc, ◌+◌, ◌-◌, ◌*◌, ◌/◌, ◌≤◌, ◌<◌}
+use Prim.Native.Nat.{ℕ, ◌+◌, ◌*◌, ◌≤◌, ◌<◌}
 use mathlib.Core.Path.{◌≡◌, refl, sym, ap, ◌∙◌}
 use mathlib.Core.List.{List, [], ◌∷◌, ◌++◌}
 use native.Mathlib.Omega.{arith}
@@ -8,7 +8,6 @@ use lib.ListN.{length, drop, length-append}
 use Rattle.base.specs.Lists.{All, each}
 use Rattle.rules.specs.Kind
 use Rattle.rules.specs.declared.Limits.{Limits}
-use Rattle.rules.specs.Record.{two_bytes}
 use Rattle.rules.specs.Formula.{Leaf.input, Leaf.coil, Leaf.constant, Formula, Formula.leaf, Formula.inverse, Formula.both, Formula.either}
 use Rattle.rules.specs.Sheet.{Start, Rung, Sheet}
 use Rattle.rules.specs.ReadFormula.{Bounds}

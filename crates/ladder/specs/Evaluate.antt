@@ -1,5 +1,5 @@
 -- What evaluating a formula's bytes promises.
-use Rattle.std.specs.Prelude.{ℕ, zero, suc, ◌+◌, ◌-◌, ◌≤◌, ◌<◌, ◌≡◌, Bool, true, false, List, [], ◌∷◌, ◌++◌, length, get_or, drop}
+use Rattle.std.specs.Prelude.{ℕ, ◌+◌, ◌-◌, ◌≤◌, ◌<◌, ◌≡◌, false, List, ◌++◌, length, get_or, drop}
 use Rattle.rules.specs.Record.{one_of}
 use Rattle.rules.specs.Formula.{Leaf.input, Leaf.coil, Leaf.constant, Formula, Entry, Entry.put, Entry.NOT, Entry.AND, Entry.OR, value}
 use Rattle.rules.specs.ReadFormula.{Bounds, formula_kinds, arity}

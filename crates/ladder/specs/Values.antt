@@ -1,5 +1,5 @@
 -- Places as values: a place that is not zero is on.
-use Rattle.std.specs.Prelude.{ℕ, zero, suc, ◌+◌, ◌≡◌, Bool, true, false, not, ◌&&◌, ◌||◌, List, [], ◌∷◌, length, get_or, drop, eqb}
+use Rattle.std.specs.Prelude.{ℕ, zero, suc, ◌+◌, ◌≡◌, Bool, false, not, ◌&&◌, ◌||◌, List, [], ◌∷◌, length, get_or, drop, eqb}
 use Rattle.base.specs.Pick.{pick}
 use Rattle.rules.specs.Formula.{Inputs, Coils, Entry, Entry.put, Entry.NOT, Entry.AND, Entry.OR, reads}
 

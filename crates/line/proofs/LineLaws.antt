@@ -2,10 +2,9 @@
 -- Assumes nothing.
 use Prim.Native.Nat.{ℕ, ◌+◌, ◌≤◌, ◌<◌}
 use mathlib.Core.Path.{◌≡◌}
-use mathlib.Core.List.{List, ◌++◌}
+use mathlib.Core.List.{List}
 use native.Mathlib.Omega.{arith}
 use lib.ListN.{length, length-append}
-use mir.Facts.{Fits-widen}
 use mir.Syntax.{w8, w64}
 use mir.Val.{Fits}
 use Rattle.rules.specs.Verdict.{answer_of}

@@ -11,7 +11,7 @@ use Rattle.base.specs.Lists.{All, each}
 use Rattle.rules.specs.declared.Limits.{Limits}
 use Rattle.rules.specs.Kind
 use Rattle.rules.specs.Record.{rows, body_length}
-use Rattle.rules.specs.Walk.{◌at◌, Reading.closed, reading}
+use Rattle.rules.specs.Walk.{Reading.closed, reading}
 use Rattle.rules.specs.Formula.{Formula}
 use Rattle.rules.specs.Sheet.{Sheet}
 use Rattle.rules.specs.ReadFormula.{empty}

@@ -11,7 +11,7 @@ use lib.Dec.{leb}
 use lib.Seq.{get_or-take}
 use borrow.Author.Tests.{leb-true, leb-false}
 use Rattle.rules.specs.Record.{Front.nothing, Front.cut, front, record_length}
-use Rattle.rules.specs.Walk.{◌at◌, Move, Move.go, Move.mark, Move.no, Move.done, Reading, Reading.marked, Reading.closed, Reader, move_at, past, walk, reading}
+use Rattle.rules.specs.Walk.{Move, Move.go, Move.mark, Move.no, Move.done, Reading, Reading.marked, Reading.closed, Reader, move_at, past, walk, reading}
 use Rattle.reading.specs.Readings.{marks, final, CutShort}
 use Rattle.reading.proofs.FrontLaws.{front_within, front_short, past_within, record_some}
 use Rattle.reading.proofs.WalkLaws.{Took, move_took, took_move, took_less, walk_go, walk_mark, walk_no, walk_done, walk_fuel}

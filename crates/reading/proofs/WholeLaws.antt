@@ -7,7 +7,7 @@ use native.Mathlib.Omega.{arith}
 use lib.ListN.{length, get_or, take, drop, length-append, take-append-drop}
 use lib.Seq.{get_or-drop, length-take-le, append_snoc}
 use Rattle.rules.specs.Record.{record_length}
-use Rattle.rules.specs.Walk.{◌at◌, Move, Move.go, Move.mark, Move.no, Move.done, Reading.closed, Reader, move_at, past, walk, reading}
+use Rattle.rules.specs.Walk.{Move, Move.go, Move.mark, Move.no, Move.done, Reading.closed, Reader, move_at, past, walk, reading}
 use Rattle.rules.specs.WriteSheet.{Bytes}
 use Rattle.reading.specs.Readings.{marks, final}
 use Rattle.reading.proofs.FrontLaws.{Whole, record_some}

@@ -18,7 +18,7 @@ use Rattle.refutation.specs.Steps.{Follows.refuses, Follows.derives, FitNext, St
 use Rattle.refutation.specs.declared.Spot.{Spot}
 use Rattle.refutation.specs.declared.Spot.TheVariants.{At, Nowhere}
 use Rattle.refutation.specs.declared.Derived.{Derived}
-use Rattle.refutation.specs.declared.Derived.TheVariants.{Clause, Fault}
+use Rattle.refutation.specs.declared.Derived.TheVariants.{Fault}
 use Rattle.refutation.proofs.PartLaws.{outside_same}
 use Rattle.refutation.proofs.SlotLaws.{slot_next}
 use Rattle.refutation.proofs.HeldLaws.{located, not_there, held_more, fit_more}

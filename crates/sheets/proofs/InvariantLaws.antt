@@ -9,7 +9,7 @@ use lib.ListN.{length, get_or, drop}
 use borrow.Author.Tests.{ne_eqb}
 use Rattle.rules.specs.declared.Limits.{Limits}
 use Rattle.rules.specs.Record.{record_length, one_of}
-use Rattle.rules.specs.Walk.{◌at◌, Move.no, move_at}
+use Rattle.rules.specs.Walk.{Move.no, move_at}
 use Rattle.rules.specs.Formula.{size}
 use Rattle.rules.specs.Sheet.{Sheet}
 use Rattle.rules.specs.ReadFormula.{certificate_faults, Stack, empty, Pushed.fine, Pushed.fault, in_range, entry, operand, push, formula_record}

@@ -12,7 +12,7 @@ use borrow.Author.Tests.{le-leb, lt-leb, lt-ltb, le-ltb, eq-eqb, ne_eqb, eqb-tru
 use Rattle.base.specs.Lists.{each}
 use Rattle.rules.specs.declared.Limits.{Limits}
 use Rattle.rules.specs.Record.{number}
-use Rattle.rules.specs.Walk.{Move.go, Move.no}
+use Rattle.rules.specs.Walk.{Move.no}
 use Rattle.rules.specs.Sheet.{Rung}
 use Rattle.rules.specs.ReadFormula.{operand}
 use Rattle.rules.specs.ReadSheet.{Spot.at_rungs, Spot.at_end, Draft, SheetMove, add_rung, set_condition, driven, cleared, read_rung, read_condition}

@@ -3,10 +3,9 @@
 use Prim.Native.Nat.{ℕ, ◌+◌, ◌-◌, ◌≤◌, ◌<◌}
 use mathlib.Core.Path.{◌≡◌, refl, sym, ap, ◌∙◌}
 use mathlib.Core.Bool.{Bool, true, false}
-use mathlib.Core.List.{List, ◌++◌}
+use mathlib.Core.List.{List}
 use native.Mathlib.Omega.{arith}
 use lib.ListN.{length, get_or, drop}
-use lib.Seq.{drop_at}
 use lib.Dec.{ltb}
 use borrow.Author.Tests.{lt-ltb, le-ltb}
 use Rattle.base.specs.Pick.{pick}
@@ -14,7 +13,7 @@ use Rattle.base.specs.Lists.{fresh}
 use Rattle.base.proofs.ClearLaws.{fresh_length, fresh_rest, fresh_zero}
 use Rattle.rules.specs.declared.Limits.{Limits}
 use Rattle.rules.specs.Record.{record_length}
-use Rattle.rules.specs.Walk.{◌at◌, Move.go, Move.no, Reading, move_at, reading}
+use Rattle.rules.specs.Walk.{◌at◌, Move.no, Reading, move_at, reading}
 use Rattle.rules.specs.Sheet.{Sheet}
 use Rattle.rules.specs.ReadSheet.{Draft, blank, SheetRead.good, SheetRead.bad, sheet_reader, judge_sheet, read_sheet}
 use Rattle.sheets.specs.Draft.{spot_no, Laid, Stands, Went, Closed, After, Stepped, Answers}

@@ -15,7 +15,7 @@ use Rattle.rules.specs.declared.Headed.{Headed}
 use Rattle.rules.specs.declared.Headed.TheVariants.{Fits, OutOfRange}
 use Rattle.rules.specs.Head.{head_fits, headed}
 use Rattle.rules.specs.Record.{number}
-use Rattle.rules.specs.Walk.{Move.go, Move.no}
+use Rattle.rules.specs.Walk.{Move.no}
 use Rattle.rules.specs.ReadFormula.{sheet_faults, empty, Pushed.fine, Pushed.fault, in_range, entry, push, formula_record}
 use Rattle.rules.specs.ReadSheet.{Spot.at_starts, Spot.at_rungs, Draft, headed_sheet, add_start, sheet_bounds, read_head, read_start, read_entry}
 use Rattle.rules.specs.WriteSheet.{write_rung}

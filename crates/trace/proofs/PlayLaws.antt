@@ -1,27 +1,26 @@
 -- The exits of INPUT-ON and SCAN.
 -- Assumes nothing.
-use Prim.Native.Nat.{ℕ, zero, suc, ◌+◌, ◌≤◌, ◌<◌}
-use mathlib.Core.Path.{◌≡◌, refl, sym, ap, ◌∙◌, subst, fun_ext}
-use mathlib.Core.Bool.{Bool, true, false, not, ◌&&◌, ◌||◌, or-false, and-false}
+use Prim.Native.Nat.{ℕ, ◌+◌, ◌≤◌, ◌<◌}
+use mathlib.Core.Path.{◌≡◌, refl, sym, ap, ◌∙◌, fun_ext}
+use mathlib.Core.Bool.{Bool, true, false, not, ◌||◌, and-false}
 use mathlib.Core.List.{List, [], ◌∷◌, ◌++◌}
 use native.Mathlib.Omega.{arith}
-use lib.ListN.{length, get_or, set, length-append}
-use lib.Dec.{eqb, ltb, leb}
-use borrow.Author.Tests.{lt-ltb, le-ltb, le-leb, lt-leb, eq-eqb, ne_eqb}
+use lib.ListN.{length, set, length-append}
+use lib.Dec.{eqb}
+use borrow.Author.Tests.{lt-ltb, le-ltb, le-leb, lt-leb, ne_eqb}
 use Rattle.base.specs.Pick.{pick}
 use Rattle.base.specs.Lists.{fresh}
 use Rattle.base.proofs.ClearLaws.{all_zero}
 use Rattle.rules.specs.Record.{one_of}
-use Rattle.rules.specs.Formula.{value}
 use Rattle.rules.specs.Sheet.{Sheet, with, scan, holds_after}
-use Rattle.rules.specs.Walk.{Move, Move.go, Move.mark, Move.no, Move.done}
-use Rattle.rules.specs.Certificate.{Scanning, named, read_input_on, scans_move}
+use Rattle.rules.specs.Walk.{Move.go, Move.mark, Move.no, Move.done}
+use Rattle.rules.specs.Certificate.{named, read_input_on, scans_move}
 use Rattle.rules.specs.Verdict.{Replay, replayed}
-use Rattle.ladder.specs.Values.{on, bit_of}
+use Rattle.ladder.specs.Values.{on}
 use Rattle.ladder.specs.Evaluate.{bounds_for}
-use Rattle.ladder.specs.Scan.{LadderAt, ScannedOnce, ScansOnce}
+use Rattle.ladder.specs.Scan.{ScansOnce}
 use Rattle.ladder.proofs.ScanLaws.{on_set, run_places_lem}
-use Rattle.trace.specs.Playing.{first_broken, Playing, Follows, Follows.goes, Follows.scans, Follows.stops, Follows.over, ScansMove, NamesInput, scan_move, Scans, end_move, EndsScans, scan_kinds, Allows, Moves}
+use Rattle.trace.specs.Playing.{first_broken, Follows, Follows.goes, Follows.scans, Follows.stops, Follows.over, ScansMove, NamesInput, scan_move, Scans, end_move, EndsScans, Allows, Moves}
 use Rattle.records.specs.Found.{number_at}
 use Rattle.rules.specs.declared.Limits.{Limits}
 use Rattle.trace.specs.declared.Play.{Play}

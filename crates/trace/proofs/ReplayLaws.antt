@@ -3,25 +3,23 @@
 use Prim.Native.Nat.{ℕ, zero, suc, ◌+◌, ◌-◌, ◌≤◌, ◌<◌}
 use mathlib.Core.Path.{◌≡◌, refl, sym, ap, ◌∙◌, subst}
 use mathlib.Core.Bool.{Bool, true, false, not}
-use mathlib.Core.List.{List, [], ◌∷◌}
+use mathlib.Core.List.{List, []}
 use native.Mathlib.Omega.{arith}
-use lib.ListN.{length, get_or, drop, length-drop}
-use lib.Dec.{ltb, eqb}
+use lib.ListN.{length, drop, length-drop}
 use borrow.Author.Tests.{lt-ltb, le-ltb, not-true, not-false}
 use Rattle.base.specs.Pick.{pick}
 use Rattle.rules.specs.declared.Limits.{Limits}
 use Rattle.rules.specs.declared.Answer.{Answer}
 use Rattle.rules.specs.declared.Answer.TheVariants.{Confirmed, Refused}
-use Rattle.rules.specs.Record.{one_of, record_length}
-use Rattle.rules.specs.Walk.{◌at◌, Move, Move.go, Move.mark, Move.no, Move.done, Reading, Reading.stopped, move_at, past, walk}
-use Rattle.rules.specs.Sheet.{Sheet, start_of}
-use Rattle.rules.specs.Certificate.{Scanning, named, scans_move, scans_reader, read_scans}
-use Rattle.rules.specs.Verdict.{Verdict, Verdict.confirmed, Verdict.refused, Replay, replayed, ends, unplayed, judge_scans, answer_of}
+use Rattle.rules.specs.Record.{one_of}
+use Rattle.rules.specs.Walk.{◌at◌, Move.go, Move.mark, Move.no, Move.done, move_at, walk}
+use Rattle.rules.specs.Sheet.{Sheet}
+use Rattle.rules.specs.Certificate.{Scanning, scans_move, scans_reader, read_scans}
+use Rattle.rules.specs.Verdict.{Verdict.refused, Replay, replayed, unplayed, judge_scans, answer_of}
 use Rattle.records.specs.Found.{record_at}
 use Rattle.records.specs.declared.Found.{Found}
 use Rattle.records.specs.declared.Found.TheVariants.{Nothing, NoKind, Cut, Whole}
 use Rattle.records.proofs.FrontLaws.{move_nothing, move_unknown, move_cut, move_whole, Passes, passes}
-use Rattle.ladder.specs.Values.{on}
 use Rattle.trace.specs.Playing.{Playing, Follows, Follows.goes, Follows.scans, Follows.stops, Follows.over, ScansMove, scan_kinds, Allows, Moves, Judges, Cuts, Finishes, Drawn, ScanAt, ReplayAt, Replayed, Replays}
 use Rattle.trace.specs.declared.Play.{Play}
 use Rattle.trace.specs.declared.Ladder.{Ladder}

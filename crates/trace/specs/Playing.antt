@@ -1,5 +1,5 @@
 -- How a replay's numbers and lent places stand for the rules' state, and what each record promises.
-use Rattle.std.specs.Prelude.{ℕ, ◌+◌, ◌≤◌, ◌<◌, ◌≡◌, Bool, true, false, not, ◌&&◌, List, [], ◌∷◌, length, drop, eqb, leb}
+use Rattle.std.specs.Prelude.{ℕ, ◌+◌, ◌≤◌, ◌<◌, ◌≡◌, Bool, not, ◌&&◌, List, [], ◌∷◌, length, drop, eqb, leb}
 use Rattle.base.specs.Pick.{pick}
 use Rattle.rules.specs.declared.Limits.{Limits}
 use Rattle.rules.specs.Kind
@@ -7,7 +7,7 @@ use Rattle.rules.specs.Record.{one_of}
 use Rattle.rules.specs.Sheet.{Sheet, start_of}
 use Rattle.rules.specs.Walk.{◌at◌, Move, Move.go, Move.mark, Move.no, Move.done}
 use Rattle.rules.specs.Certificate.{Scanning, named, read_input_on, scans_move, read_scans}
-use Rattle.rules.specs.Verdict.{Verdict, Verdict.confirmed, Verdict.refused, Replay, replayed, ends, unplayed, judge_scans, answer_of}
+use Rattle.rules.specs.Verdict.{Verdict.confirmed, Verdict.refused, Replay, replayed, ends, unplayed, judge_scans, answer_of}
 use Rattle.rules.specs.declared.Answer.{Answer}
 use Rattle.ladder.specs.Values.{on}
 use Rattle.ladder.specs.Evaluate.{bounds_for}

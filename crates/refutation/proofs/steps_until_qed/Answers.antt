@@ -1,5 +1,4 @@
 use Rattle.std.proofs.Common.{rules}
-use Prim.Native.Nat.{◌-◌}
 use Rattle.refutation.proofs.LoopLaws.{steps_cases}
 use Rattle.refutation.proofs.steps_until_qed.Goals as goal
 

@@ -1,5 +1,4 @@
 use Rattle.std.proofs.Common.{rules}
-use Prim.Native.Nat.{◌-◌}
 use Rattle.sheets.proofs.InvariantLaws.{read_invariant_cases}
 use Rattle.sheets.proofs.read_invariant.Goals as goal
 

@@ -1,5 +1,4 @@
 use Rattle.std.proofs.Common.{rules}
-use Prim.Native.Nat.{◌-◌}
 use Rattle.sheets.proofs.SheetLaws.{read_records_cases}
 use Rattle.sheets.proofs.read_records.Goals as goal
 

@@ -1,5 +1,4 @@
 use Rattle.std.proofs.Common.{rules}
-use Prim.Native.Nat.{◌-◌}
 use Rattle.writing.proofs.PutLaws.{put_text_cases}
 use Rattle.writing.proofs.put_text.Goals as goal
 

@@ -1,5 +1,4 @@
 use Rattle.std.proofs.Common.{rules}
-use Prim.Native.Nat.{◌-◌}
 use Rattle.refutation.proofs.HasLaws.{has_cases}
 use Rattle.refutation.proofs.codes.has.Goals as goal
 

@@ -1,0 +1,10 @@
+use Prim.Native.Nat.{◌-◌}
+use lib.ListN.{length}
+use Rattle.loading.proofs.FillLaws.{Filling}
+use Rattle.loading.proofs.fill.Given as goal
+
+abbrev pub invariant-loop-done : goal.invariant-loop-done
+invariant-loop-done l = Filling l.initial.buf l.buf l.done
+
+abbrev pub decreases-loop-done : goal.decreases-loop-done
+decreases-loop-done l = length l.buf - l.done
