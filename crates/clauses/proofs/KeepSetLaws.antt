@@ -13,7 +13,7 @@ use Rattle.rules.specs.Sheet.{Sheet}
 use Rattle.rules.specs.ReadSheet.{sheet_bounds}
 use Rattle.rules.specs.WriteSheet.{write_formula, write_rung, sizes}
 use Rattle.rules.specs.Certificate.{Which.keep, invariant_bounds}
-use Rattle.rules.specs.Clauses.{Clause, before as before_vars, after as after_vars, top, rungs_at, before_at, after_at, ladder, condition, invariant_before, invariant_after, defining, clause_set}
+use Rattle.rules.specs.Clauses.{Clause, before as before_vars, after as after_vars, top, rungs_at, before_at, after_at, ladder, invariant_before, invariant_after, defining, clause_set}
 use Rattle.clauses.specs.declared.Layout.{Layout}
 use Rattle.clauses.specs.declared.Wrote.{Wrote}
 use Rattle.clauses.specs.Emits.{signed, Emitted}

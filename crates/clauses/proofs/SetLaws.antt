@@ -12,7 +12,7 @@ use Rattle.rules.specs.Sheet.{Start, Rung, Sheet}
 use Rattle.rules.specs.ReadSheet.{sheet_bounds}
 use Rattle.rules.specs.WriteSheet.{write_formula, sizes}
 use Rattle.rules.specs.Certificate.{Which.start, invariant_bounds}
-use Rattle.rules.specs.Clauses.{Vars, Clause, before as before_vars, top, before_at, ladder, condition, invariant_before, defining, closing, rung_clauses, start_units, clause_set}
+use Rattle.rules.specs.Clauses.{Vars, Clause, before as before_vars, top, before_at, ladder, invariant_before, defining, closing, rung_clauses, start_units, clause_set}
 use Rattle.clauses.specs.declared.Layout.{Layout}
 use Rattle.clauses.specs.declared.Wrote.{Wrote}
 use Rattle.clauses.specs.Emits.{emits, signed, Emitted}

@@ -1,6 +1,5 @@
 use Rattle.std.proofs.Common.{rules}
 use Rattle.clauses.proofs.FormulaLaws.{formula_cases}
-use Prim.Native.Nat.{◌-◌}
 use Rattle.clauses.proofs.formula.formula_clauses.Goals as goal
 
 pub loop-d-init : goal.loop-d-init

@@ -1,6 +1,5 @@
 use Rattle.std.proofs.Common.{rules}
 use Rattle.clauses.proofs.RungLaws.{rung_cases}
-use Prim.Native.Nat.{◌-◌}
 use Rattle.clauses.proofs.rungs.rung_clauses.Goals as goal
 
 pub loop-i-init : goal.loop-i-init
@@ -13,7 +12,7 @@ pub overflow_sub-next : goal.overflow_sub-next
 overflow_sub-next c = search (rules, rung_cases)
 
 pub close-requires : goal.close-requires
-close-requires c = search (rules, rung_cases, c.before.before.before.before.before.formula-clauses.ensures, c.before.before.before.before.before.before.before.before.before.before.loop.invariant)
+close-requires c = search (rules, rung_cases, c.formula_clauses-r.ensures, c.loop-i.invariant)
 
 pub overflow_add-place : goal.overflow_add-place
 overflow_add-place c = search (rules, rung_cases)

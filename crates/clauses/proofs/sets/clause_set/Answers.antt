@@ -4,24 +4,15 @@ use Rattle.clauses.proofs.sets.clause_set.Goals as goal
 
 pub start_set-requires : goal.start_set-requires
 start_set-requires c =
-    let d = c.before.before.before.before.before.before.before in
-    let b = d.before.before.before.before in
-    let a = b.before.before.before.before.before.before.before.before in
-    set_at _ _ _ _ _ _ _ _ b.number-coils.auto.0 d.number-coils2.auto.0 a.requires b.number-coils.ensures d.number-coils2.ensures
+    set_at _ _ _ _ _ _ _ _ c.number_coils.auto.map c.number_coils-2.auto.map c.requires c.number_coils.ensures c.number_coils-2.ensures
 
 pub keep_set-requires : goal.keep_set-requires
 keep_set-requires c =
-    let d = c.before.before.before.before.before.before.before in
-    let b = d.before.before.before.before in
-    let a = b.before.before.before.before.before.before.before.before in
-    set_at _ _ _ _ _ _ _ _ b.number-coils.auto.0 d.number-coils2.auto.0 a.requires b.number-coils.ensures d.number-coils2.ensures
+    set_at _ _ _ _ _ _ _ _ c.number_coils.auto.map c.number_coils-2.auto.map c.requires c.number_coils.ensures c.number_coils-2.ensures
 
 pub safe_set-requires : goal.safe_set-requires
 safe_set-requires c =
-    let d = c.before.before.before.before.before.before.before in
-    let b = d.before.before.before.before in
-    let a = b.before.before.before.before.before.before.before.before in
-    set_at _ _ _ _ _ _ _ _ b.number-coils.auto.0 d.number-coils2.auto.0 a.requires b.number-coils.ensures d.number-coils2.ensures
+    set_at _ _ _ _ _ _ _ _ c.number_coils.auto.map c.number_coils-2.auto.map c.requires c.number_coils.ensures c.number_coils-2.ensures
 
 pub returns-in-1 : goal.returns-in-1
 returns-in-1 c = search (rules, clause_set_cases)

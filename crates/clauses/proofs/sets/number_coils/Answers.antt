@@ -1,6 +1,5 @@
 use Rattle.std.proofs.Common.{rules}
 use Rattle.clauses.proofs.TopLaws.{number_cases}
-use Prim.Native.Nat.{◌-◌}
 use Rattle.clauses.proofs.sets.number_coils.Goals as goal
 
 pub loop-i-init : goal.loop-i-init

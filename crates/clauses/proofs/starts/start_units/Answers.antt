@@ -1,6 +1,5 @@
 use Rattle.std.proofs.Common.{rules}
 use Rattle.clauses.proofs.StartLaws.{start_cases}
-use Prim.Native.Nat.{◌-◌}
 use Rattle.clauses.proofs.starts.start_units.Goals as goal
 
 pub loop-c-init : goal.loop-c-init
