@@ -1,27 +1,26 @@
 -- The certificate over a good sheet, the sheet before it, and the workspace around both.
 -- Assumes nothing.
-use Prim.Native.Nat.{ℕ, zero, suc, ◌+◌, ◌-◌, ◌*◌, ◌≤◌, ◌<◌}
+use Prim.Native.Nat.{ℕ, suc, ◌+◌, ◌-◌, ◌≤◌, ◌<◌}
 use mathlib.Core.Path.{◌≡◌, refl, sym, ap, ◌∙◌, subst}
-use mathlib.Core.Bool.{Bool, true, false}
+use mathlib.Core.Bool.{true}
 use mathlib.Core.List.{List, [], ◌∷◌, ◌++◌}
 use native.Mathlib.Omega.{arith}
-use lib.ListN.{length, take, drop, replicate, length-append, length-drop}
+use lib.ListN.{length, take, drop, length-append, length-drop}
 use lib.Seq.{drop_at, length-take-le}
 use borrow.Author.Tests.{lt-ltb, le-ltb}
-use Rattle.base.specs.Lists.{fresh, each}
+use Rattle.base.specs.Lists.{fresh}
 use Rattle.rules.specs.Kind
 use Rattle.rules.specs.Record.{front}
 use Rattle.rules.specs.declared.Limits.{Limits}
 use Rattle.rules.specs.declared.Answer.{Answer}
 use Rattle.rules.specs.declared.Answer.TheVariants.{Refused}
 use Rattle.rules.specs.Head.{base_limits}
-use Rattle.rules.specs.Walk.{◌at◌, Reading, Reading.stopped, Reading.closed, move_at, walk, reading}
-use Rattle.rules.specs.Formula.{Formula}
+use Rattle.rules.specs.Walk.{◌at◌, Reading.stopped, Reading.closed, move_at, walk, reading}
 use Rattle.rules.specs.Sheet.{Sheet}
-use Rattle.rules.specs.ReadSheet.{SheetRead.good, SheetRead.bad, read_sheet}
-use Rattle.rules.specs.WriteSheet.{write_sheet, write_start, write_formula, WithinSheet, Bytes}
-use Rattle.rules.specs.Certificate.{Which.start, opening, read_invariant, read_steps, read_scans}
-use Rattle.rules.specs.Verdict.{Verdict, refuting, judge, judge_steps, judge_safe, judge_scans, judge_opened, judge_certificate, unplayed, answer_of}
+use Rattle.rules.specs.ReadSheet.{SheetRead.bad, read_sheet}
+use Rattle.rules.specs.WriteSheet.{write_formula, WithinSheet, Bytes}
+use Rattle.rules.specs.Certificate.{Which.start, opening, read_invariant, read_steps}
+use Rattle.rules.specs.Verdict.{judge, judge_safe, judge_opened, judge_certificate, answer_of}
 use Rattle.reading.proofs.SheetKept.{sheet_written}
 use Rattle.reading.proofs.InvariantLaws.{InvariantWritten, invariant_written}
 use Rattle.sheets.specs.declared.Outline.{Outline}
@@ -35,8 +34,8 @@ use Rattle.sheets.specs.Answer.{Outlined, Says, ReadAs}
 use Rattle.sheets.specs.Certificate.{opening_kinds, opened_as, InvariantThere, InvariantSays, InvariantAs}
 use Rattle.clauses.specs.declared.Layout.{Layout}
 use Rattle.checker.specs.Traced.{TracedAt, Traces}
-use Rattle.checker.specs.Refuted.{Limited, SafeAt, begun, before_it, Follows}
-use Rattle.checker.specs.Checked.{Checked, layout_of, Drawable, Small, Lent, SafeFor, JudgesSafe, OpenedFor, JudgesOpened, JudgesBytes}
+use Rattle.checker.specs.Refuted.{SafeAt, before_it, Follows}
+use Rattle.checker.specs.Checked.{Checked, layout_of, Drawable, Lent, SafeFor, JudgesSafe, OpenedFor, JudgesOpened, JudgesBytes}
 use Rattle.ladder.proofs.SheetBytes.{starts_length}
 
 -- a safety certificate

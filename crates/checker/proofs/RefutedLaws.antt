@@ -1,31 +1,29 @@
 -- One refutation over its clause set, and the three of a certificate one after the other.
 -- Assumes nothing.
-use Prim.Native.Nat.{ℕ, zero, suc, ◌+◌, ◌-◌, ◌*◌, ◌≤◌, ◌<◌}
+use Prim.Native.Nat.{ℕ, ◌+◌, ◌-◌, ◌*◌, ◌≤◌, ◌<◌}
 use mathlib.Core.Path.{◌≡◌, refl, sym, ap, ◌∙◌, subst}
 use mathlib.Core.Bool.{false}
-use mathlib.Core.List.{List, [], ◌++◌}
+use mathlib.Core.List.{List, ◌++◌}
 use native.Mathlib.Omega.{arith}
-use lib.ListN.{length, take, drop, length-append, length-drop, length-take}
+use lib.ListN.{length, take, drop, length-append, length-drop}
 use lib.Seq.{length-take-le}
 use Rattle.rules.specs.declared.Limits.{Limits}
 use Rattle.rules.specs.declared.Answer.{Answer}
 use Rattle.rules.specs.declared.Answer.TheVariants.{Refused}
-use Rattle.rules.specs.Formula.{Formula}
-use Rattle.rules.specs.Sheet.{Sheet}
 use Rattle.rules.specs.Certificate.{Which, Which.start, Which.keep, Which.safe}
 use Rattle.rules.specs.Clauses.{Clause, places, variables, clause_set}
 use Rattle.rules.specs.Verdict.{following, answer_of}
 use Rattle.solving.proofs.Counted.{sets_placeable}
 use Rattle.clauses.specs.declared.Layout.{Layout}
-use Rattle.clauses.specs.Emits.{emits, Emitted}
-use Rattle.clauses.specs.Sets.{Given, number_of, ClauseSetWritten}
+use Rattle.clauses.specs.Emits.{Emitted}
+use Rattle.clauses.specs.Sets.{number_of, ClauseSetWritten}
 use Rattle.refutation.specs.Memory.{slot_at, Room, Held}
-use Rattle.refutation.specs.Judging.{Case, verdict, Stands, Ends, Judged, Ended}
+use Rattle.refutation.specs.Judging.{verdict, Ends, Judged, Ended}
 use Rattle.refutation.specs.declared.Refuted.{Refuted}
 use Rattle.refutation.specs.declared.Refuted.TheVariants.{Done, Fault}
 use Rattle.refutation.proofs.PlaceLaws.{held_places}
 use Rattle.refutation.proofs.CaseLaws.{next_case, fault_is, done_is, end_is}
-use Rattle.checker.specs.Refuted.{Limited, clause_room, SafeAt, RefuteAt, before_it, begun, Refutes, Follows}
+use Rattle.checker.specs.Refuted.{clause_room, SafeAt, RefuteAt, before_it, begun, Refutes, Follows}
 use Rattle.clauses.proofs.PlacesLaws.{places_length, emits_places}
 use Rattle.checker.proofs.CountLaws.{set_fits, filled_front, shorts}
 

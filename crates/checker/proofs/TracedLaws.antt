@@ -1,29 +1,25 @@
 -- A trace over a good sheet: what the start values and the replay need, and the answer.
 -- Assumes nothing.
-use Prim.Native.Nat.{ℕ, zero, suc, ◌+◌, ◌-◌, ◌*◌, ◌/◌, ◌≤◌, ◌<◌}
-use mathlib.Core.Path.{◌≡◌, refl, sym, ap, ◌∙◌, subst, fun_ext}
-use mathlib.Core.Bool.{Bool, true, false, not}
-use mathlib.Core.List.{List, []}
+use Prim.Native.Nat.{ℕ, ◌≤◌}
+use mathlib.Core.Path.{◌≡◌, sym, ap, ◌∙◌, fun_ext}
+use mathlib.Core.Bool.{false}
+use mathlib.Core.List.{List}
 use native.Mathlib.Omega.{arith}
-use lib.ListN.{length, get_or}
+use lib.ListN.{length}
 use Rattle.base.specs.Lists.{fresh}
 use Rattle.base.proofs.ClearLaws.{fresh_length, all_zero}
 use Rattle.rules.specs.declared.Limits.{Limits}
 use Rattle.rules.specs.declared.Answer.{Answer}
-use Rattle.rules.specs.Sheet.{Sheet, start_of}
+use Rattle.rules.specs.Sheet.{Sheet}
 use Rattle.rules.specs.WriteSheet.{write_sheet, WithinSheet}
-use Rattle.rules.specs.Certificate.{named, read_scans}
+use Rattle.rules.specs.Certificate.{read_scans}
 use Rattle.rules.specs.Verdict.{judge_scans, unplayed, answer_of}
 use Rattle.reading.proofs.SheetKept.{sheet_written}
 use Rattle.sheets.specs.declared.Outline.{Outline}
-use Rattle.sheets.specs.Answer.{Outlined}
 use Rattle.ladder.specs.Values.{on}
 use Rattle.ladder.specs.Starts.{start_places, StartsAt, Initialises}
-use Rattle.ladder.specs.Evaluate.{bounds_for}
-use Rattle.ladder.specs.Scan.{LadderAt}
 use Rattle.ladder.proofs.StartLaws.{starts_are}
-use Rattle.trace.specs.Playing.{Drawn, ScanAt, ReplayAt, Replays}
-use Rattle.trace.specs.declared.Ladder.{Ladder}
+use Rattle.trace.specs.Playing.{ReplayAt, Replays}
 use Rattle.checker.specs.Traced.{starts_of, TracedAt, Traces}
 use Rattle.ladder.proofs.SheetBytes.{ladder_at, starts_at, starts_named_here}
 

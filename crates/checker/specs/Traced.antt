@@ -1,8 +1,7 @@
 -- What judging a trace over a good sheet promises.
-use Rattle.std.specs.Prelude.{ℕ, ◌+◌, ◌-◌, ◌*◌, ◌/◌, ◌≤◌, ◌<◌, ◌≡◌, List, length}
+use Rattle.std.specs.Prelude.{ℕ, ◌-◌, ◌/◌, ◌≤◌, ◌<◌, ◌≡◌, List, length}
 use Rattle.rules.specs.declared.Limits.{Limits}
 use Rattle.rules.specs.declared.Answer.{Answer}
-use Rattle.rules.specs.Sheet.{Sheet}
 use Rattle.rules.specs.WriteSheet.{Bytes}
 use Rattle.rules.specs.Certificate.{read_scans}
 use Rattle.rules.specs.Verdict.{judge_scans, unplayed, answer_of}
