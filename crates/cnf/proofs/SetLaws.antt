@@ -1,19 +1,18 @@
 -- The set that an argument names, and the count of variables that set 2 shows.
 -- Assumes nothing.
 use Prim.Native.Nat.{ℕ, ◌-◌, ◌*◌, ◌≤◌, ◌<◌}
-use mathlib.Core.Path.{◌≡◌, refl, sym, ap, ◌∙◌}
-use mathlib.Core.Bool.{true, false, ◌&&◌}
-use mathlib.Core.List.{List, ◌++◌}
+use mathlib.Core.Path.{◌≡◌, sym, ap, ◌∙◌}
+use mathlib.Core.List.{List}
 use native.Mathlib.Omega.{arith}
 use lib.ListN.{length, get_or, drop}
 use borrow.Author.Tests.{le-leb, lt-leb, eq-eqb, ne_eqb}
 use Rattle.rules.specs.Head.{base_limits}
 use Rattle.rules.specs.Certificate.{Which.keep}
-use Rattle.rules.specs.Clauses.{clause_set, places}
-use Rattle.rules.specs.Verdict.{Translation, Translation.written, written_of, room_after}
+use Rattle.rules.specs.Clauses.{clause_set}
+use Rattle.rules.specs.Verdict.{Translation, written_of, room_after}
 use Rattle.rules.specs.declared.Written.{Written}
 use Rattle.rules.specs.declared.Written.TheVariants.{Clauses, Withheld}
-use Rattle.files.specs.Files.{base_bounds, translate_files, Translates}
+use Rattle.files.specs.Files.{base_bounds, Translates}
 use Rattle.dimacs.specs.Dimacs.{last_variable}
 use Rattle.dimacs.proofs.SetLaws.{text_is_the_sets}
 use Rattle.cnf.specs.Set.{set_named, CountsVariables}

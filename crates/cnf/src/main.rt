@@ -8,21 +8,23 @@ ghost use Rattle.loading.specs.Loading.{Holds};
 ghost use Rattle.cnf.specs.Set.{set_named, CountsVariables};
 
 use files::{CERTIFICATE, SHEET};
-use libc::STDOUT_FILENO;
 use line::ROOM;
 use loading::Loaded;
 use rules::{Answer, Written};
+use std::env::Env;
+use std::io;
+use std::io::Print;
 
 // Places for the largest set, three for each of 4,700 clauses.
 const PLACES: usize = 14100;
 
-fn say_unreadable() {
+fn say_unreadable(rt: &impl Print) -> io::Result<()> {
     let mut text = [0u8; ROOM];
     let n = line::write_unreadable(&mut text);
-    io::write_all(STDOUT_FILENO, &text[..n]);
+    rt.write_all(&text[..n])
 }
 
-fn say_refused(no: u8, place: usize) {
+fn say_refused(rt: &impl Print, no: u8, place: usize) -> io::Result<()> {
     let mut text = [0u8; ROOM];
     let n = line::write_line(
         Answer::Refused {
@@ -31,34 +33,35 @@ fn say_refused(no: u8, place: usize) {
         },
         &mut text,
     );
-    io::write_all(STDOUT_FILENO, &text[..n]);
+    rt.write_all(&text[..n])
 }
 
-fn say_head(variables: usize, clauses: usize) {
+fn say_head(rt: &impl Print, variables: usize, clauses: usize) -> io::Result<()> {
     let mut text = [0u8; ROOM];
     let n = dimacs::write_head(variables, clauses, &mut text);
-    io::write_all(STDOUT_FILENO, &text[..n]);
+    rt.write_all(&text[..n])
 }
 
-fn say_clause(room: &[u16], k: usize)
+fn say_clause(rt: &impl Print, room: &[u16], k: usize) -> io::Result<()>
     requires { 3 * k + 3 ≤ length room.now }
 {
     let mut text = [0u8; ROOM];
     let n = dimacs::write_clause(room, k, &mut text);
-    io::write_all(STDOUT_FILENO, &text[..n]);
+    rt.write_all(&text[..n])
 }
 
 // The head line, then the clauses in their order.
-fn say_clauses(variables: usize, clauses: usize, room: &[u16]) {
+fn say_clauses(rt: &impl Print, variables: usize, clauses: usize, room: &[u16]) -> io::Result<()> {
     if room.len() / 3 < clauses {
-        return;
+        return Ok(());
     }
-    say_head(variables, clauses);
+    say_head(rt, variables, clauses)?;
     let mut k: usize = 0;
     while k < clauses {
-        say_clause(room, k);
+        say_clause(rt, room, k)?;
         k += 1;
     }
+    Ok(())
 }
 
 // The head line counts all variables of sheet and invariant for every set, so set 2 is made first: its last clause names the last one.
@@ -72,13 +75,19 @@ fn count_variables(sheet: &[u8], certificate: &[u8], room: &mut [u16]) -> usize
 }
 
 // The room holds any set, so none is refused for want of it.
-fn say_set(set: u32, sheet: &[u8], certificate: &[u8], room: &mut [u16])
+fn say_set(
+    rt: &impl Print,
+    set: u32,
+    sheet: &[u8],
+    certificate: &[u8],
+    room: &mut [u16],
+) -> io::Result<()>
     requires { largest_set ≤ length room.old }
 {
     let variables = count_variables(sheet, certificate, room);
     match files::translate_files(set, sheet, certificate, room) {
-        Written::Withheld { no, place } => say_refused(no, place),
-        Written::Clauses { count } => say_clauses(variables, count, room),
+        Written::Withheld { no, place } => say_refused(rt, no, place),
+        Written::Clauses { count } => say_clauses(rt, variables, count, room),
     }
 }
 
@@ -99,37 +108,45 @@ fn set_named(name: &[u8]) -> u32
     (b - b'0') as u32
 }
 
-fn set_argument() -> u32 {
-    let mut name = io::buffer();
-    let n = os::arg(1, &mut name);
+fn set_argument(rt: &impl Env) -> u32 {
+    let mut name = [0u8; 4096];
+    let n = match rt.arg(1, &mut name) {
+        Ok(n) => n,
+        Err(_) => 0,
+    };
     set_named(&name[..n])
 }
 
 // What was read of the two files, in rooms that hold one byte past each bound.
-fn answer(set: u32, a: Loaded, sheet: &[u8], b: Loaded, certificate: &[u8])
-    requires holds { Holds sheet.now 0 a }
-    requires holds_2 { Holds certificate.now 0 b }
-    requires sheet_len { length sheet.now ≡ base_bounds.sheet + 1 }
-    requires certificate_len { length certificate.now ≡ base_bounds.certificate + 1 }
+fn answer(
+    rt: &impl Print,
+    set: u32,
+    a: Loaded,
+    sheet: &[u8],
+    b: Loaded,
+    certificate: &[u8],
+) -> io::Result<()>
+    requires sheet_holds { Holds sheet.now 0 a }
+    requires certificate_holds { Holds certificate.now 0 b }
+    requires sheet_room { length sheet.now ≡ base_bounds.sheet + 1 }
+    requires certificate_room { length certificate.now ≡ base_bounds.certificate + 1 }
 {
     let Loaded::Bytes(n) = a else {
-        say_unreadable();
-        return;
+        return say_unreadable(rt);
     };
     let Loaded::Bytes(m) = b else {
-        say_unreadable();
-        return;
+        return say_unreadable(rt);
     };
     let mut room = [0u16; PLACES];
-    say_set(set, &sheet[..n], &certificate[..m], &mut room);
+    say_set(rt, set, &sheet[..n], &certificate[..m], &mut room)
 }
 
 // Both files are tried before anything is judged; a set's name that is missing leaves the files' names missing too.
-fn main() {
+fn main(rt: HostRuntime) -> io::Result<()> {
     let mut sheet = [0u8; SHEET + 1];
     let mut certificate = [0u8; CERTIFICATE + 1];
-    let set = set_argument();
-    let a = loading::load(2, &mut sheet);
-    let b = loading::load(3, &mut certificate);
-    answer(set, a, &sheet, b, &certificate);
+    let set = set_argument(&rt);
+    let a = loading::load(&rt, 2, &mut sheet);
+    let b = loading::load(&rt, 3, &mut certificate);
+    answer(&rt, set, a, &sheet, b, &certificate)
 }

@@ -1,5 +1,5 @@
 -- What the program writes for two files' bytes.
-use Rattle.std.specs.Prelude.{ℕ, List, length}
+use Rattle.std.specs.Prelude.{ℕ, List}
 use Rattle.rules.specs.Head.{base_limits}
 use Rattle.files.specs.Files.{base_bounds, judge_files}
 use Rattle.line.specs.Line.{line_of}

@@ -8,9 +8,10 @@ ghost use Rattle.loading.specs.Loading.{Holds};
 ghost use Rattle.gustvane.specs.Program.{verdict_line};
 
 use files::{CERTIFICATE, SHEET};
-use libc::STDOUT_FILENO;
 use line::ROOM;
 use loading::Loaded;
+use std::io;
+use std::io::Print;
 
 // The line for two files' bytes, which may come cut one byte past their bounds.
 fn write_verdict(sheet: &[u8], certificate: &[u8], out: &mut [u8]) -> usize
@@ -22,41 +23,39 @@ fn write_verdict(sheet: &[u8], certificate: &[u8], out: &mut [u8]) -> usize
     line::write_line(answer, out)
 }
 
-fn say_verdict(sheet: &[u8], certificate: &[u8]) {
+fn say_verdict(rt: &impl Print, sheet: &[u8], certificate: &[u8]) -> io::Result<()> {
     let mut text = [0u8; ROOM];
     let n = write_verdict(sheet, certificate, &mut text);
-    io::write_all(STDOUT_FILENO, &text[..n]);
+    rt.write_all(&text[..n])
 }
 
-fn say_unreadable() {
+fn say_unreadable(rt: &impl Print) -> io::Result<()> {
     let mut text = [0u8; ROOM];
     let n = line::write_unreadable(&mut text);
-    io::write_all(STDOUT_FILENO, &text[..n]);
+    rt.write_all(&text[..n])
 }
 
 // The line for what was read of the two files, in rooms that hold one byte past each bound.
-fn answer(a: Loaded, sheet: &[u8], b: Loaded, certificate: &[u8])
-    requires holds { Holds sheet.now 0 a }
-    requires holds_2 { Holds certificate.now 0 b }
-    requires sheet_len { length sheet.now ≡ base_bounds.sheet + 1 }
-    requires certificate_len { length certificate.now ≡ base_bounds.certificate + 1 }
+fn answer(rt: &impl Print, a: Loaded, sheet: &[u8], b: Loaded, certificate: &[u8]) -> io::Result<()>
+    requires sheet_holds { Holds sheet.now 0 a }
+    requires certificate_holds { Holds certificate.now 0 b }
+    requires sheet_room { length sheet.now ≡ base_bounds.sheet + 1 }
+    requires certificate_room { length certificate.now ≡ base_bounds.certificate + 1 }
 {
     let Loaded::Bytes(n) = a else {
-        say_unreadable();
-        return;
+        return say_unreadable(rt);
     };
     let Loaded::Bytes(m) = b else {
-        say_unreadable();
-        return;
+        return say_unreadable(rt);
     };
-    say_verdict(&sheet[..n], &certificate[..m]);
+    say_verdict(rt, &sheet[..n], &certificate[..m])
 }
 
 // Both files are tried before either is judged, and no more than one byte past a bound is read.
-fn main() {
+fn main(rt: HostRuntime) -> io::Result<()> {
     let mut sheet = [0u8; SHEET + 1];
     let mut certificate = [0u8; CERTIFICATE + 1];
-    let a = loading::load(1, &mut sheet);
-    let b = loading::load(2, &mut certificate);
-    answer(a, &sheet, b, &certificate);
+    let a = loading::load(&rt, 1, &mut sheet);
+    let b = loading::load(&rt, 2, &mut certificate);
+    answer(&rt, a, &sheet, b, &certificate)
 }

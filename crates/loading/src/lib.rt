@@ -4,6 +4,11 @@
 ghost use Rattle.std.specs.Prelude.{length, ◌≤◌};
 ghost use Rattle.loading.specs.Loading.{Holds};
 
+use std::env::Env;
+use std::fs;
+use std::fs::Files;
+use std::io::Read;
+
 // How many bytes were read, or that the file cannot be read.
 #[derive(Clone, Copy)]
 pub enum Loaded {
@@ -11,17 +16,23 @@ pub enum Loaded {
     Failed,
 }
 
+// The count that one read gives, or none where it fails. It is not taken on trust: it is tested where it is used.
+fn count_read<F: Read>(file: &mut F, buf: &mut [u8]) -> Option<usize> {
+    match file.read(buf) {
+        Ok(n) => Some(n),
+        Err(_) => None,
+    }
+}
+
 // One read into buf from a place on: how many bytes came, 0 at the end, or that it failed.
-fn read_some(fd: i32, buf: &mut [u8], from: usize) -> Loaded
+fn read_some<F: Read>(file: &mut F, buf: &mut [u8], from: usize) -> Loaded
     requires { from ≤ length buf.old }
     ensures { Holds buf.new from result }
 {
     let left = buf.len() - from;
-    let got = libc::read(fd, &mut buf[from..]);
-    if got < 0 {
+    let Some(n) = count_read(file, &mut buf[from..]) else {
         return Loaded::Failed;
-    }
-    let n = io::count(got, buf);
+    };
     if left < n {
         return Loaded::Failed;
     }
@@ -29,12 +40,12 @@ fn read_some(fd: i32, buf: &mut [u8], from: usize) -> Loaded
 }
 
 // Reads until buf is full or the file ends.
-fn fill(fd: i32, buf: &mut [u8]) -> Loaded
+fn fill<F: Read>(file: &mut F, buf: &mut [u8]) -> Loaded
     ensures { Holds buf.new 0 result }
 {
     let mut done: usize = 0;
     while done < buf.len() {
-        match read_some(fd, buf, done) {
+        match read_some(file, buf, done) {
             Loaded::Failed => {
                 return Loaded::Failed;
             }
@@ -54,19 +65,18 @@ fn fill(fd: i32, buf: &mut [u8]) -> Loaded
 
 // The first bytes of the file that argument number i names, as many as buf has room for. It fails where the argument is missing,
 // or where the file cannot be opened or read, as a directory cannot.
-pub fn load(i: usize, buf: &mut [u8]) -> Loaded
+pub fn load<R: Env + Files>(rt: &R, i: usize, buf: &mut [u8]) -> Loaded
     ensures { Holds buf.new 0 result }
 {
-    let mut path = io::buffer();
-    let length = os::arg(i, &mut path);
-    if os::errno() != 0 {
+    let mut path = [0u8; 4096];
+    let Ok(length) = rt.arg(i, &mut path) else {
         return Loaded::Failed;
-    }
-    let fd = os::open_read(&path[..length]);
-    if fd < 0 {
+    };
+    let Ok(name) = str::from_utf8(&path[..length]) else {
         return Loaded::Failed;
-    }
-    let r = fill(fd, buf);
-    libc::close(fd);
-    r
+    };
+    let Ok(mut file) = fs::open(rt, name) else {
+        return Loaded::Failed;
+    };
+    fill(&mut file, buf)
 }

@@ -4,7 +4,7 @@ use Rattle.loading.proofs.FillLaws.{Filling}
 use Rattle.loading.proofs.fill.Given as goal
 
 abbrev pub invariant-loop-done : goal.invariant-loop-done
-invariant-loop-done l = Filling l.initial.buf l.buf l.done
+invariant-loop-done g l = Filling l.initial.buf l.buf l.done
 
 abbrev pub decreases-loop-done : goal.decreases-loop-done
-decreases-loop-done l = length l.buf - l.done
+decreases-loop-done g l = length l.buf - l.done
