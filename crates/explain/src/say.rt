@@ -1,10 +1,11 @@
 // Bytes and numbers to standard output.
-use libc::STDOUT_FILENO;
+use std::io;
+use std::io::Print;
 
-pub fn words(text: &[u8]) {
-    io::write_all(STDOUT_FILENO, text);
+pub fn words(rt: &impl Print, text: &[u8]) -> io::Result<()> {
+    rt.write_all(text)
 }
 
-pub fn number(n: usize) {
-    io::print_decimal(STDOUT_FILENO, n as u64);
+pub fn number(rt: &impl Print, n: usize) -> io::Result<()> {
+    rt.print(n)
 }

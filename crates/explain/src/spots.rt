@@ -3,74 +3,72 @@ ghost use Rattle.std.specs.Prelude.{◌+◌, ◌≤◌, length};
 
 use super::say;
 use records::Found;
+use std::io;
+use std::io::Print;
 
 // No record is of this kind.
 pub const NONE: u8 = 0;
 
-fn sheet_kind(kind: u8) {
+fn sheet_kind(rt: &impl Print, kind: u8) -> io::Result<()> {
     match kind {
-        0x01 => say::words(b"HEAD"),
-        0x02 => say::words(b"START"),
-        0x20 => say::words(b"RUNG"),
-        0x21 => say::words(b"CONDITION"),
-        0x2F => say::words(b"END"),
-        _ => {}
+        0x01 => say::words(rt, b"HEAD"),
+        0x02 => say::words(rt, b"START"),
+        0x20 => say::words(rt, b"RUNG"),
+        0x21 => say::words(rt, b"CONDITION"),
+        0x2F => say::words(rt, b"END"),
+        _ => Ok(()),
     }
 }
 
-fn formula_kind(kind: u8) {
+fn formula_kind(rt: &impl Print, kind: u8) -> io::Result<()> {
     match kind {
-        0x10 => say::words(b"INPUT contact"),
-        0x11 => say::words(b"COIL contact"),
-        0x12 => say::words(b"CONSTANT"),
-        0x13 => say::words(b"NOT"),
-        0x14 => say::words(b"AND"),
-        0x15 => say::words(b"OR"),
-        _ => {}
+        0x10 => say::words(rt, b"INPUT contact"),
+        0x11 => say::words(rt, b"COIL contact"),
+        0x12 => say::words(rt, b"CONSTANT"),
+        0x13 => say::words(rt, b"NOT"),
+        0x14 => say::words(rt, b"AND"),
+        0x15 => say::words(rt, b"OR"),
+        _ => Ok(()),
     }
 }
 
-fn certificate_kind(kind: u8) {
+fn certificate_kind(rt: &impl Print, kind: u8) -> io::Result<()> {
     match kind {
-        0x40 => say::words(b"STEP"),
-        0x41 => say::words(b"QED"),
-        0x50 => say::words(b"SAFE"),
-        0x51 => say::words(b"INVARIANT"),
-        0x60 => say::words(b"TRACE"),
-        0x61 => say::words(b"INPUT-ON"),
-        0x62 => say::words(b"SCAN"),
-        _ => {}
+        0x40 => say::words(rt, b"STEP"),
+        0x41 => say::words(rt, b"QED"),
+        0x50 => say::words(rt, b"SAFE"),
+        0x51 => say::words(rt, b"INVARIANT"),
+        0x60 => say::words(rt, b"TRACE"),
+        0x61 => say::words(rt, b"INPUT-ON"),
+        0x62 => say::words(rt, b"SCAN"),
+        _ => Ok(()),
     }
 }
 
-fn kind_name(kind: u8) {
-    sheet_kind(kind);
-    formula_kind(kind);
-    certificate_kind(kind);
+fn kind_name(rt: &impl Print, kind: u8) -> io::Result<()> {
+    sheet_kind(rt, kind)?;
+    formula_kind(rt, kind)?;
+    certificate_kind(rt, kind)
 }
 
 // What stands at a place of the file called `name`.
-pub fn record(name: &[u8], s: &[u8], place: usize) {
-    say::words(b"At byte ");
-    say::number(place);
-    say::words(b" of the ");
-    say::words(name);
+pub fn record(rt: &impl Print, name: &[u8], s: &[u8], place: usize) -> io::Result<()> {
+    say::words(rt, b"At byte ")?;
+    say::number(rt, place)?;
+    say::words(rt, b" of the ")?;
+    say::words(rt, name)?;
     match records::record_at(s, place) {
-        Found::Nothing => {
-            say::words(b": nothing is left.\n");
-        }
-        Found::NoKind => {
-            say::words(b": a byte that is no kind.\n");
-        }
+        Found::Nothing => say::words(rt, b": nothing is left.\n"),
+        Found::NoKind => say::words(rt, b": a byte that is no kind.\n"),
         Found::Cut { kind } => {
-            say::words(b": a record that is cut, ");
-            kind_name(kind);
-            say::words(b".\n");
+            say::words(rt, b": a record that is cut, ")?;
+            kind_name(rt, kind)?;
+            say::words(rt, b".\n")
         }
         Found::Whole { kind, next: _ } => {
-            say::words(b": ");
-            kind_name(kind);
-            say::words(b".\n");
+            say::words(rt, b": ")?;
+            kind_name(rt, kind)?;
+            say::words(rt, b".\n")
         }
     }
 }
@@ -142,39 +140,39 @@ pub fn past(s: &[u8], n: usize, kind: u8) -> usize
 }
 
 // A refusal of the sheet: its place, and how many rungs were closed before it.
-pub fn in_sheet(s: &[u8], place: usize) {
-    record(b"sheet", s, place);
-    say::words(b"Rungs closed before it: ");
-    say::number(count(s, place, 0x20, NONE));
-    say::words(b".\n");
+pub fn in_sheet(rt: &impl Print, s: &[u8], place: usize) -> io::Result<()> {
+    record(rt, b"sheet", s, place)?;
+    say::words(rt, b"Rungs closed before it: ")?;
+    say::number(rt, count(s, place, 0x20, NONE))?;
+    say::words(rt, b".\n")
 }
 
 // Which refutation a place is in, and how many of its STEPs came before.
-fn in_refutation(c: &[u8], place: usize) {
-    say::words(b"In the refutation of set ");
-    say::number(count(c, place, 0x41, NONE) + 1);
-    say::words(b", STEPs before it: ");
-    say::number(count(c, place, 0x40, 0x41));
-    say::words(b".\n");
+fn in_refutation(rt: &impl Print, c: &[u8], place: usize) -> io::Result<()> {
+    say::words(rt, b"In the refutation of set ")?;
+    say::number(rt, count(c, place, 0x41, NONE) + 1)?;
+    say::words(rt, b", STEPs before it: ")?;
+    say::number(rt, count(c, place, 0x40, 0x41))?;
+    say::words(rt, b".\n")
 }
 
-fn in_trace(c: &[u8], place: usize) {
-    say::words(b"Scans before it: ");
-    say::number(count(c, place, 0x62, NONE));
-    say::words(b".\n");
+fn in_trace(rt: &impl Print, c: &[u8], place: usize) -> io::Result<()> {
+    say::words(rt, b"Scans before it: ")?;
+    say::number(rt, count(c, place, 0x62, NONE))?;
+    say::words(rt, b".\n")
 }
 
 // A refusal of the certificate: its place, and what came before it in a refutation or a trace.
-pub fn in_certificate(c: &[u8], no: u8, place: usize) {
-    record(b"certificate", c, place);
+pub fn in_certificate(rt: &impl Print, c: &[u8], no: u8, place: usize) -> io::Result<()> {
+    record(rt, b"certificate", c, place)?;
     if no < 18 {
-        return;
+        return Ok(());
     }
     if no < 23 {
-        in_refutation(c, place);
-        return;
+        return in_refutation(rt, c, place);
     }
     if no < 26 {
-        in_trace(c, place);
+        return in_trace(rt, c, place);
     }
+    Ok(())
 }
