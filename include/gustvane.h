@@ -1,7 +1,7 @@
 /* Gustvane for C: the checker and the translator.
  *
- * Link the static library of crate `export`, which `rt staticlib export` makes
- * as target/staticlib/libexport.a.
+ * Link the static library of crate `export`, which `rt lib` in crates/export
+ * makes as crates/export/out/libexport.a.
  *
  * A sheet and a certificate are any bytes at all, of any length: what is not
  * well formed is refused with a number and a place. Both functions only read
