@@ -109,7 +109,7 @@ fn set_named(name: &[u8]) -> u32
 }
 
 fn set_argument(rt: &impl Env) -> u32 {
-    let mut name = [0u8; 4096];
+    let mut name = [0u8; loading::PATH];
     let n = match rt.arg(1, &mut name) {
         Ok(n) => n,
         Err(_) => 0,

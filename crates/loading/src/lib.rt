@@ -9,6 +9,9 @@ use std::fs;
 use std::fs::Files;
 use std::io::Read;
 
+// Room for any path, which an argument may be.
+pub const PATH: usize = 4096;
+
 // How many bytes were read, or that the file cannot be read.
 #[derive(Clone, Copy)]
 pub enum Loaded {
@@ -68,7 +71,7 @@ fn fill<F: Read>(file: &mut F, buf: &mut [u8]) -> Loaded
 pub fn load<R: Env + Files>(rt: &R, i: usize, buf: &mut [u8]) -> Loaded
     ensures { Holds buf.new 0 result }
 {
-    let mut path = [0u8; 4096];
+    let mut path = [0u8; PATH];
     let Ok(length) = rt.arg(i, &mut path) else {
         return Loaded::Failed;
     };

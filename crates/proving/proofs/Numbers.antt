@@ -155,7 +155,7 @@ scans_above l t = record {
   ends = omega arith;
   strange = omega arith;
   moves = λ st k bs.
-      either Moved (eqb k Kind.INPUTON) _ _
+      either Moved (eqb k Kind.INPUT_ON) _ _
       (either Moved (ltb (number bs 1) t.inputs) _ _ (either Moved (ltb (number bs 1) st.least) _ _ (omega arith) tt) (omega arith))
       (either Moved (eqb k Kind.SCAN) _ _
       (either Moved (leb l.scans st.count) _ _ (omega arith) tt)

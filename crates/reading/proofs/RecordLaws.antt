@@ -14,7 +14,7 @@ use Rattle.reading.proofs.ByteLaws.{number_back}
 pub bare_record : (k : ℕ) → body_length k ≡ 0 → Written k []
 bare_record k e = record { known = rw e; long = e }
 
--- HEAD, START, RUNG, STEP and INPUT-ON; a formula record's law is `Written-entry`
+-- HEAD, START, RUNG, STEP and INPUT-ON; a formula record's law is `written_entry`
 pub head_record : (i c n : ℕ) → Written Kind.HEAD (two_bytes i ++ (two_bytes c ++ two_bytes n))
 unfolding rows body_length
 head_record i c n = record { known = refl; long = refl }
@@ -31,7 +31,7 @@ pub step_record : (a b p : ℕ) → Written Kind.STEP (two_bytes a ++ (two_bytes
 unfolding rows body_length
 step_record a b p = record { known = refl; long = refl }
 
-pub input_on_record : (n : ℕ) → Written Kind.INPUTON (two_bytes n)
+pub input_on_record : (n : ℕ) → Written Kind.INPUT_ON (two_bytes n)
 unfolding rows body_length
 input_on_record n = record { known = refl; long = refl }
 

@@ -67,7 +67,7 @@ module _ (l : Limits) (t : Sheet) (st : Scanning) (ms : Trace) (ws bs : List ℕ
       let made : record { on = st.on ++ (n ∷ []); least = n + 1; count = st.count } ≡ u = cc y.1 in
       let low : st.least ≤ n = ltb-false n st.least y.0 in
       rw (← made) (record {
-        written = each_more write_input_on (each write_scan ms) ws (record_at bs) st.on n i.written (number_bytes Kind.INPUTON bs w h refl);
+        written = each_more write_input_on (each write_scan ms) ws (record_at bs) st.on n i.written (number_bytes Kind.INPUT_ON bs w h refl);
         rises = rises_snoc 0 st.on n i.rises (rw (← i.least_next) low);
         least_next = sym (next_snoc 0 st.on n);
         there = all_snoc (λ (n : ℕ). n < t.inputs) st.on n i.there (ltb-true n t.inputs x.0);

@@ -37,7 +37,7 @@ module _ (l : Limits) (t : Sheet) where
       → Leads (scans_reader l t) (scanning_at on c) (write_input_on n) [] (scanning_at (on ++ (n ∷ [])) c)
   unfolding scans_reader scans_move read_input_on write_input_on
   input_on_leads on c n h i =
-      leads_go (scans_reader l t) (scanning_at on c) Kind.INPUTON (two_bytes n) (input_on_record n) (scanning_at (on ++ (n ∷ [])) c) refl
+      leads_go (scans_reader l t) (scanning_at on c) Kind.INPUT_ON (two_bytes n) (input_on_record n) (scanning_at (on ++ (n ∷ [])) c) refl
       (λ rest. rw (number_back n, lt-ltb _ _ i, le-ltb _ _ h, next_snoc))
 
   inputs_lead : (on : List ℕ) (c : ℕ) (xs : List ℕ) → RisesFrom (next 0 on) xs → All (λ (n : ℕ). n < t.inputs) xs
@@ -88,7 +88,7 @@ module _ (l : Limits) (t : Sheet) where
   scans_local : Local (scans_reader l t)
   unfolding rows body_length record_length scans_reader scans_move
   scans_local st k bs cs a =
-      pick_same (eqb k Kind.INPUTON) _ _ _ _ (λ e. rw (number_alike 3 bs cs (alike_at k bs cs a Kind.INPUTON e) 1 (omega arith))) (λ e. refl)
+      pick_same (eqb k Kind.INPUT_ON) _ _ _ _ (λ e. rw (number_alike 3 bs cs (alike_at k bs cs a Kind.INPUT_ON e) 1 (omega arith))) (λ e. refl)
 
   pub trace_clipped : (bs : List ℕ) (tr : Trace) → ReadsTrace l t bs tr → (m : ℕ) → m < length bs → TraceCut l t bs (take m bs)
   unfolding rows body_length read_scans scans_reader

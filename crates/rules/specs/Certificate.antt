@@ -102,7 +102,7 @@ read_input_on t st n =
 -- any INPUT-ON with rising inputs, then SCAN; END. One scan too many, or none: 24
 unfoldable pub scans_move : Limits → Sheet → Scanning → ℕ → List ℕ → Move Scanning (List ℕ) (Unit {0})
 scans_move l t st k bs =
-    pick (eqb k Kind.INPUTON) (read_input_on t st (number bs 1))
+    pick (eqb k Kind.INPUT_ON) (read_input_on t st (number bs 1))
     (pick (eqb k Kind.SCAN)
     (pick (leb l.scans st.count) (no 24) (mark st.on (record { on = []; least = 0; count = st.count + 1 })))
     (pick (eqb st.count 0) (no 24) (done tt)))
@@ -112,7 +112,7 @@ unfoldable pub scans_reader : Limits → Sheet → Reader Scanning (List ℕ) (U
 scans_reader l t = record {
   ends = certificate_faults.ends;
   strange = certificate_faults.strange;
-  allowed = λ st. Kind.INPUTON ∷ Kind.SCAN ∷ pick (eqb (length st.on) 0) (Kind.END ∷ []) [];
+  allowed = λ st. Kind.INPUT_ON ∷ Kind.SCAN ∷ pick (eqb (length st.on) 0) (Kind.END ∷ []) [];
   move = scans_move l t;
 }
 

@@ -49,8 +49,8 @@ INVARIANT = 0x51
 abbrev pub TRACE : ℕ
 TRACE = 0x60
 
-abbrev pub INPUTON : ℕ
-INPUTON = 0x61
+abbrev pub INPUT_ON : ℕ
+INPUT_ON = 0x61
 
 abbrev pub SCAN : ℕ
 SCAN = 0x62

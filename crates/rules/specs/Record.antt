@@ -18,7 +18,7 @@ rows =
     ∷ Kind.INPUT ▹ 2 ∷ Kind.COIL ▹ 2 ∷ Kind.CONSTANT ▹ 1 ∷ Kind.NOT ▹ 0 ∷ Kind.AND ▹ 0 ∷ Kind.OR ▹ 0
     ∷ Kind.RUNG ▹ 2 ∷ Kind.CONDITION ▹ 0 ∷ Kind.END ▹ 0
     ∷ Kind.STEP ▹ 6 ∷ Kind.QED ▹ 0 ∷ Kind.SAFE ▹ 0 ∷ Kind.INVARIANT ▹ 0
-    ∷ Kind.TRACE ▹ 0 ∷ Kind.INPUTON ▹ 2 ∷ Kind.SCAN ▹ 0
+    ∷ Kind.TRACE ▹ 0 ∷ Kind.INPUT_ON ▹ 2 ∷ Kind.SCAN ▹ 0
     ∷ []
 
 abbrev pub body_in : List Row → ℕ → ℕ

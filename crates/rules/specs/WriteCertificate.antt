@@ -35,7 +35,7 @@ pub record WithinCertificate (l : Limits) (t : Sheet) (d : Certificate) : Type 0
   pub steps_within : (w : Which) → All WithinStep (d.steps w)
 
 unfoldable pub write_input_on : ℕ → List ℕ
-write_input_on n = Kind.INPUTON ∷ two_bytes n
+write_input_on n = Kind.INPUT_ON ∷ two_bytes n
 
 unfoldable pub write_scan : List ℕ → List ℕ
 write_scan on = each write_input_on on ++ (Kind.SCAN ∷ [])

@@ -74,7 +74,7 @@ EndsScans p r = (t : Sheet) (inputs coils : List ℕ) (st : Scanning) (g : Repla
 
 -- the kinds in their spot
 abbrev pub scan_kinds : Scanning → List ℕ
-scan_kinds st = Kind.INPUTON ∷ Kind.SCAN ∷ pick (eqb (length st.on) 0) (Kind.END ∷ []) []
+scan_kinds st = Kind.INPUT_ON ∷ Kind.SCAN ∷ pick (eqb (length st.on) 0) (Kind.END ∷ []) []
 
 abbrev pub Allows : ℕ → Play → Bool → Type 0
 Allows kind p r = (inputs coils : List ℕ) (st : Scanning) (g : Replay) → Playing inputs coils p st g → r ≡ one_of (scan_kinds st) kind
