@@ -5,13 +5,10 @@ ghost use Rattle.std.specs.Prelude.{◌≡◌, ◌≤◌, length};
 ghost use Rattle.base.specs.Lists.{fresh};
 
 // The first `n` places are zero, the others as they were.
+#[tactic(auto, unfolding(crate::specs::Lists::fresh))]
 pub fn clear(work: &mut [u16], n: usize)
     requires { n ≤ length work.old }
     ensures { work.new ≡ fresh n work.old }
 {
-    let mut i: usize = 0;
-    while i < n {
-        work[i] = 0;
-        i += 1;
-    }
+    work[..n].fill(0);
 }

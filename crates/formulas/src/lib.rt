@@ -4,8 +4,10 @@
 ghost use Rattle.std.specs.Prelude.{◌≡◌, drop};
 ghost use Rattle.formulas.specs.Part.{part_of, length_of};
 
+use records::Kind;
+
 // A formula record, or a record that closes the formula (so for any other byte, and where none is left).
-#[derive(Clone, Copy)]
+#[derive(Clone, Copy, Debug, PartialEq, Eq)]
 pub enum Part {
     Input(u16),
     Coil(u16),
@@ -16,17 +18,20 @@ pub enum Part {
     Closing,
 }
 
+#[tactic(auto, using(crate::proofs::PartLaws::part_at_cases))]
 pub fn part_at(s: &[u8], at: usize) -> Part
     ensures { result ≡ part_of (drop at s.now) }
 {
-    let kind = records::byte_at(s, at, 0);
+    let Ok(kind) = Kind::try_from(records::byte_at(s, at, 0)) else {
+        return Part::Closing;
+    };
     match kind {
-        0x10 => Part::Input(records::number_at(s, at, 1)),
-        0x11 => Part::Coil(records::number_at(s, at, 1)),
-        0x12 => Part::Constant(records::byte_at(s, at, 1) == 1),
-        0x13 => Part::Not,
-        0x14 => Part::And,
-        0x15 => Part::Or,
+        Kind::Input => Part::Input(records::number_at(s, at, 1)),
+        Kind::Coil => Part::Coil(records::number_at(s, at, 1)),
+        Kind::Constant => Part::Constant(records::byte_at(s, at, 1) == 1),
+        Kind::Not => Part::Not,
+        Kind::And => Part::And,
+        Kind::Or => Part::Or,
         _ => Part::Closing,
     }
 }
@@ -36,12 +41,9 @@ pub fn part_length(p: Part) -> usize
     ensures { result ≡ length_of p }
 {
     match p {
-        Part::Input(_) => 3,
-        Part::Coil(_) => 3,
+        Part::Input(_) | Part::Coil(_) => 3,
         Part::Constant(_) => 2,
-        Part::Not => 1,
-        Part::And => 1,
-        Part::Or => 1,
+        Part::Not | Part::And | Part::Or => 1,
         Part::Closing => 0,
     }
 }

@@ -2,11 +2,11 @@
 #![tactic(auto)]
 
 ghost use Rattle.std.specs.Prelude.{◌≡◌};
-ghost use Rattle.records.specs.Found.{record_at};
+ghost use Rattle.records.specs.Found.{FoundAt};
 
-use records::Found;
+use records::{NoRecord, Record};
 
-#[derive(Clone, Copy)]
+#[derive(Clone, Copy, Debug)]
 pub struct Reader<'a> {
     pub src: &'a [u8],
     pub at: usize,
@@ -20,22 +20,22 @@ pub fn new<'a>(src: &'a [u8]) -> Reader<'a>
 }
 
 // What stands at the reader's place.
-pub fn next<'a>(r: Reader<'a>) -> Found
-    ensures { result ≡ record_at r.entry.src.now r.entry.at }
+pub fn next<'a>(r: Reader<'a>) -> Result<Record, NoRecord>
+    ensures { FoundAt r.entry.src.now r.entry.at result }
 {
     records::record_at(r.src, r.at)
 }
 
 // The first record of a sheet or a certificate.
-pub fn first(s: &[u8]) -> Found
-    ensures { result ≡ record_at s.now 0 }
+pub fn first(s: &[u8]) -> Result<Record, NoRecord>
+    ensures { FoundAt s.now 0 result }
 {
     next(new(s))
 }
 
 // The record at an offset: at the top through the reader.
-pub fn found_at(s: &[u8], at: usize) -> Found
-    ensures { result ≡ record_at s.now at }
+pub fn found_at(s: &[u8], at: usize) -> Result<Record, NoRecord>
+    ensures { FoundAt s.now at result }
 {
     if at == 0 {
         return first(s);

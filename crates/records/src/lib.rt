@@ -1,9 +1,15 @@
 // Records: one byte of kind, then a body whose length the kind fixes; what stands at any offset of any bytes.
 #![tactic(auto)]
 
+mod kind;
+
 ghost use Rattle.std.specs.Prelude.{◌≡◌};
 ghost use Rattle.rules.specs.Record.{body_length};
-ghost use Rattle.records.specs.Found.{record_at, byte_at, number_at};
+ghost use Rattle.records.specs.declared.NoRecord.TheVariants.{Unknown};
+ghost use Rattle.records.specs.Found.{FoundAt, DueBy, byte_at, number_at};
+
+pub use kind::{Kind, UnknownKind};
+use rules::Fault;
 
 // The body length of each possible kind byte, 255 for no such kind.
 const BODY: [u8; 256] = [
@@ -36,56 +42,62 @@ const BODY: [u8; 256] = [
     255, 255, 255, 255, 255,
 ];
 
-pub fn body_length(kind: u8) -> u8
-    ensures { result ≡ body_length kind }
+pub fn body_length(byte: u8) -> u8
+    ensures { result ≡ body_length byte }
 {
-    let k = kind as usize;
-    BODY[k]
+    BODY[usize::from(byte)]
 }
 
-// What stands at an offset: nothing is left, no such kind, a body that is cut, or a whole record and where the next begins.
-#[derive(Clone, Copy)]
-pub enum Found {
+// A whole record: its kind, and where the next begins.
+#[derive(Clone, Copy, Debug, PartialEq, Eq)]
+pub struct Record {
+    pub kind: Kind,
+    pub next: usize,
+}
+
+// Why no whole record stands at an offset: nothing is left, no such kind, or a body that is cut.
+#[derive(Clone, Copy, Debug, PartialEq, Eq)]
+pub enum NoRecord {
     Nothing,
-    NoKind,
-    Cut { kind: u8 },
-    Whole { kind: u8, next: usize },
+    Unknown,
+    Cut(Kind),
 }
 
-pub fn record_at(s: &[u8], at: usize) -> Found
-    ensures { result ≡ record_at s.now at }
+impl From<UnknownKind> for NoRecord {
+    ghost from_gives = { λ _ e. e ≡ Unknown };
+
+    fn from(_e: UnknownKind) -> NoRecord {
+        NoRecord::Unknown
+    }
+}
+
+// What stands at an offset.
+pub fn record_at(s: &[u8], at: usize) -> Result<Record, NoRecord>
+    ensures { FoundAt s.now at result }
 {
     if s.len() <= at {
-        return Found::Nothing;
+        return Err(NoRecord::Nothing);
     }
-    let kind = s[at];
-    let body = body_length(kind);
-    if body == 255 {
-        return Found::NoKind;
+    let kind = Kind::try_from(s[at])?;
+    let body = usize::from(body_length(s[at]));
+    let start = at + 1;
+    if s.len() - start < body {
+        return Err(NoRecord::Cut(kind));
     }
-    let n = body as usize;
-    let b = at + 1;
-    if s.len() - b < n {
-        return Found::Cut { kind: kind };
-    }
-    Found::Whole {
-        kind: kind,
-        next: b + n,
-    }
+    Ok(Record {
+        kind,
+        next: start + body,
+    })
 }
 
 // The byte `k` bytes into the record at an offset, 0 past the end.
 pub fn byte_at(s: &[u8], at: usize, k: usize) -> u8
     ensures { result ≡ byte_at s.now at k }
 {
-    if s.len() <= at {
+    if s.len() <= at || s.len() - at <= k {
         return 0;
     }
-    if s.len() - at <= k {
-        return 0;
-    }
-    let i = at + k;
-    s[i]
+    s[at + k]
 }
 
 // The number `k` bytes into the record at an offset: two bytes, low byte first.
@@ -95,7 +107,55 @@ pub fn number_at(s: &[u8], at: usize, k: usize) -> u16
     if s.len() <= k {
         return 0;
     }
-    let low = byte_at(s, at, k) as u16;
-    let high = byte_at(s, at, k + 1) as u16;
-    low + 256 * high
+    u16::from_le_bytes([byte_at(s, at, k), byte_at(s, at, k + 1)])
+}
+
+// The refusals that a reader shares: nothing is left or a body is cut, and a kind that is unknown or not allowed.
+#[derive(Clone, Copy, Debug, PartialEq, Eq)]
+pub struct Common {
+    pub ends: Fault,
+    pub strange: Fault,
+}
+
+impl Common {
+    pub const SHEET: Common = Common {
+        ends: Fault::SheetEnds,
+        strange: Fault::SheetKind,
+    };
+
+    pub const CERTIFICATE: Common = Common {
+        ends: Fault::CertificateEnds,
+        strange: Fault::CertificateKind,
+    };
+}
+
+// The whole record that is due at an offset where only some kinds are allowed.
+#[tactic(auto, using(crate::proofs::DueLaws::due_cases))]
+pub fn due_at<F: FnOnce(Kind) -> bool>(
+    s: &[u8],
+    at: usize,
+    faults: Common,
+    allowed: F,
+) -> Result<Record, Fault>
+    requires { (k : _) → F.pre allowed k }
+    ensures { DueBy (F.post allowed) s.now at faults result }
+{
+    match record_at(s, at) {
+        Ok(record) => {
+            if allowed(record.kind) {
+                Ok(record)
+            } else {
+                Err(faults.strange)
+            }
+        }
+        Err(NoRecord::Nothing) => Err(faults.ends),
+        Err(NoRecord::Unknown) => Err(faults.strange),
+        Err(NoRecord::Cut(kind)) => {
+            if allowed(kind) {
+                Err(faults.ends)
+            } else {
+                Err(faults.strange)
+            }
+        }
+    }
 }

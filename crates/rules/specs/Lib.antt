@@ -2,6 +2,7 @@ pub mod Head
 pub mod Kind
 pub mod Record
 pub mod Walk
+pub mod Fault
 pub mod Formula
 pub mod Sheet
 pub mod ReadFormula

@@ -1,12 +1,16 @@
 -- The verdict of any sheet bytes, certificate bytes and workspace length, and the translator's answer.
-use Rattle.std.specs.Prelude.{ℕ, ◌+◌, ◌*◌, Bool, true, false, not, ◌&&◌, List, [], ◌∷◌, ◌++◌, length, drop, ltb, eqb}
+use Rattle.std.specs.Prelude.{ℕ, ◌≡◌, ◌+◌, ◌*◌, Result, Ok, Err, Bool, true, false, not, ◌&&◌, List, [], ◌∷◌, ◌++◌, length, drop, ltb, eqb}
 use Rattle.base.specs.Pick.{pick}
 use Rattle.rules.specs.declared.Limits.{Limits}
 use Rattle.rules.specs.declared.Answer.{Answer}
-use Rattle.rules.specs.declared.Answer.TheVariants.{Accepted, Confirmed, Refused}
-use Rattle.rules.specs.declared.Written.{Written}
-use Rattle.rules.specs.declared.Written.TheVariants.{Clauses, Withheld}
+use Rattle.rules.specs.declared.Answer.TheVariants.{Accepted, Confirmed}
+use Rattle.rules.specs.declared.Set.{Set}
+use Rattle.rules.specs.declared.Set.TheVariants.{Start, Keep, Safe}
+use Rattle.rules.specs.declared.refusals.Fault.{Fault}
+use Rattle.rules.specs.declared.refusals.Fault.TheVariants.{NoSet}
+use Rattle.rules.specs.declared.refusals.Refusal.{Refusal as Told}
 use Rattle.rules.specs.Kind
+use Rattle.rules.specs.Fault.{refusal_of}
 use Rattle.rules.specs.Walk.{Refusal, ◌at◌, Reading, Reading.stopped, Reading.marked, Reading.closed, reading}
 use Rattle.rules.specs.Formula.{Coils, Formula}
 use Rattle.rules.specs.Sheet.{Sheet, start_of, scan, holds_after}
@@ -134,15 +138,36 @@ translation l w s c room =
     (pick (eqb w 3) (translate_sheet l room safe c (read_sheet l s)) (withheld (29 at 0))))
 
 -- the number and values for each case of the checker's answer
-unfoldable pub answer_of : Answer → Verdict
-answer_of Accepted = accepted
-answer_of (Confirmed m) = confirmed m
-answer_of (Refused n p) = refused (n at p)
+unfoldable pub answer_of : Result Answer Told → Verdict
+answer_of (Ok Accepted) = accepted
+answer_of (Ok (Confirmed m)) = confirmed m
+answer_of (Err x) = refused (refusal_of x)
 
 -- the translator's answer: how many clauses, or the refusal's number and place
-unfoldable pub written_of : Translation → Written
-written_of (written cs) = Clauses (length cs)
-written_of (withheld x) = Withheld x.no x.place
+unfoldable pub written_of : Translation → Result ℕ Refusal
+written_of (written cs) = Ok (length cs)
+written_of (withheld x) = Err x
+
+-- and so in the code
+unfoldable pub count_of : Result ℕ Told → Result ℕ Refusal
+count_of (Ok n) = Ok n
+count_of (Err x) = Err (refusal_of x)
+
+-- the code's set, and its number
+abbrev pub which_of : Set → Which
+which_of Start = start
+which_of Keep = keep
+which_of Safe = safe
+
+abbrev pub number_of_set : Set → ℕ
+number_of_set Start = 1
+number_of_set Keep = 2
+number_of_set Safe = 3
+
+-- a number from 1 to 3 names its set, any other none: 29
+abbrev pub NamesSet : ℕ → Result Set Fault → Type 0
+NamesSet n (Ok w) = n ≡ number_of_set w
+NamesSet n (Err f) = f ≡ NoSet × ((w : Set) → n ≡ number_of_set w → ⊥)
 
 -- the room after it: three places a clause, further places alone; a refusal writes nothing
 unfoldable pub room_after : Translation → List ℕ → List ℕ

@@ -1,12 +1,17 @@
 // The rules: the sheet's own type with its limits, and the answers. The definitions are in specs/.
 #![tactic(auto)]
 
+mod refusals;
+
 ghost use Rattle.std.specs.Prelude.{◌≡◌};
 ghost use Rattle.rules.specs.Head.{base_limits, headed};
+ghost use Rattle.rules.specs.Verdict.{NamesSet};
 ghost use Rattle.rules.specs.Samples.{Hold};
 
+pub use refusals::{Fault, Refusal};
+
 // The limits that a sheet, a certificate and a trace keep to, and the workspace they are checked in.
-#[derive(Clone, Copy)]
+#[derive(Clone, Copy, Debug, PartialEq, Eq)]
 pub struct Limits {
     pub inputs: usize,
     pub coils: usize,
@@ -21,33 +26,41 @@ pub struct Limits {
 }
 
 // A sheet's head that passed its range test.
-#[derive(Clone, Copy)]
+#[derive(Clone, Copy, Debug, PartialEq, Eq)]
 pub struct Sheet {
     pub inputs: usize,
     pub coils: usize,
     pub rungs: usize,
 }
 
-// The checker's answer.
-#[derive(Clone, Copy)]
+// What the checker answers where it does not refuse.
+#[derive(Clone, Copy, Debug, PartialEq, Eq)]
 pub enum Answer {
     Accepted,
     Confirmed { scan: usize },
-    Refused { no: u8, place: usize },
 }
 
-// The translator's answer: how many clauses it wrote, or why none.
-#[derive(Clone, Copy)]
-pub enum Written {
-    Clauses { count: usize },
-    Withheld { no: u8, place: usize },
+// The three clause sets, and so the three refutations, in their order.
+#[derive(Clone, Copy, Debug, PartialEq, Eq)]
+pub enum Set {
+    Start,
+    Keep,
+    Safe,
 }
 
-// What a head's three numbers are found to be.
-#[derive(Clone, Copy)]
-pub enum Headed {
-    Fits(Sheet),
-    OutOfRange,
+impl TryFrom<u32> for Set {
+    type Error = Fault;
+
+    ghost try_from_gives = { NamesSet };
+
+    fn try_from(number: u32) -> Result<Self, Fault> {
+        match number {
+            1 => Ok(Set::Start),
+            2 => Ok(Set::Keep),
+            3 => Ok(Set::Safe),
+            _ => Err(Fault::NoSet),
+        }
+    }
 }
 
 impl Sheet {
@@ -100,28 +113,20 @@ impl Sheet {
     }
 
     // A head that passes its range test.
-    pub fn new(l: Limits, inputs: usize, coils: usize, rungs: usize) -> Headed
+    #[tactic(auto, unfolding(crate::specs::Head::head_fits))]
+    pub fn new(l: Limits, inputs: usize, coils: usize, rungs: usize) -> Option<Sheet>
         ensures { result ≡ headed l inputs coils rungs }
     {
-        if l.inputs < inputs {
-            return Headed::OutOfRange;
+        if l.inputs < inputs || coils < 1 || l.coils < coils {
+            return None;
         }
-        if coils < 1 {
-            return Headed::OutOfRange;
+        if coils < rungs || l.rungs < rungs {
+            return None;
         }
-        if l.coils < coils {
-            return Headed::OutOfRange;
-        }
-        if coils < rungs {
-            return Headed::OutOfRange;
-        }
-        if l.rungs < rungs {
-            return Headed::OutOfRange;
-        }
-        Headed::Fits(Sheet {
-            inputs: inputs,
-            coils: coils,
-            rungs: rungs,
+        Some(Sheet {
+            inputs,
+            coils,
+            rungs,
         })
     }
 }

@@ -7,4 +7,4 @@ use Rattle.records.proofs.body_length.Goals as goal
 
 pub returns : goal.returns
 unfolding body_length rows
-returns c = entry body_length 256 c.args.kind (search rules)
+returns c = rw c.from.ensures (entry body_length 256 c.args.byte (search rules))

@@ -1,0 +1,58 @@
+// The kinds of records, and the byte of each.
+ghost use Rattle.records.specs.Kinds.{Decodes};
+
+#[derive(Clone, Copy, Debug, PartialEq, Eq)]
+pub enum Kind {
+    Head,
+    Start,
+    Input,
+    Coil,
+    Constant,
+    Not,
+    And,
+    Or,
+    Rung,
+    Condition,
+    End,
+    Step,
+    Qed,
+    Safe,
+    Invariant,
+    Trace,
+    InputOn,
+    Scan,
+}
+
+// A byte that is no kind.
+#[derive(Clone, Copy, Debug, PartialEq, Eq)]
+pub struct UnknownKind;
+
+impl TryFrom<u8> for Kind {
+    type Error = UnknownKind;
+
+    ghost try_from_gives = { Decodes };
+
+    fn try_from(byte: u8) -> Result<Self, UnknownKind> {
+        match byte {
+            0x01 => Ok(Kind::Head),
+            0x02 => Ok(Kind::Start),
+            0x10 => Ok(Kind::Input),
+            0x11 => Ok(Kind::Coil),
+            0x12 => Ok(Kind::Constant),
+            0x13 => Ok(Kind::Not),
+            0x14 => Ok(Kind::And),
+            0x15 => Ok(Kind::Or),
+            0x20 => Ok(Kind::Rung),
+            0x21 => Ok(Kind::Condition),
+            0x2F => Ok(Kind::End),
+            0x40 => Ok(Kind::Step),
+            0x41 => Ok(Kind::Qed),
+            0x50 => Ok(Kind::Safe),
+            0x51 => Ok(Kind::Invariant),
+            0x60 => Ok(Kind::Trace),
+            0x61 => Ok(Kind::InputOn),
+            0x62 => Ok(Kind::Scan),
+            _ => Err(UnknownKind),
+        }
+    }
+}
