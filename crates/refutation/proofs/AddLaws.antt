@@ -31,9 +31,9 @@ module _ (w : List ℕ) (a width k x : ℕ) where
     outside = outside_same a (a + width) w;
   }
 
-  module _ (r : Bool) (e : r ≡ one_of (part w a k) x) (s : Space w a width k) (h : k ≤ width) where
+  module _ (r : Bool) (y : ℕ) (e : r ≡ one_of (part w a k) y) (i : y ≡ x) (s : Space w a width k) (h : k ≤ width) where
     same_test : (xs : List ℕ) → Built w a width k xs → one_of xs x ≡ r
-    same_test xs b = sym (e ∙ ap (λ (y : List ℕ). one_of y x) (b.kept h))
+    same_test xs b = sym (rw i at e ∙ ap (λ (z : List ℕ). one_of z x) (b.kept h))
 
     pub add_there : r ≡ true → Grown w a width k (with x) w k
     unfolding with
@@ -43,7 +43,7 @@ module _ (w : List ℕ) (a width k x : ℕ) where
       outside = outside_same a (a + width) w;
     }
 
-    pub add_past : r ≡ false → k ≡ width → Grown w a width k (with x) w (k + 1)
+    pub add_past : r ≡ false → width ≤ k → Grown w a width k (with x) w (k + 1)
     unfolding with
     add_past q z = record {
       built = λ xs b.
@@ -54,7 +54,7 @@ module _ (w : List ℕ) (a width k x : ℕ) where
       outside = outside_same a (a + width) w;
     }
 
-    pub add_new : r ≡ false → (k ≡ width → ⊥) → Grown w a width k (with x) (set w (a + k) x) (k + 1)
+    pub add_new : r ≡ false → k < width → Grown w a width k (with x) (set w (a + k) x) (k + 1)
     unfolding with
     add_new q z = record {
       built = λ xs b.
@@ -78,14 +78,14 @@ module _ (w : List ℕ) (a width k x p : ℕ) where
   unfolding unless
   but_filler s e = same (λ xs. rw (eq-eqb _ _ e)) s
 
-  pub but_left_out : Space w a width k → x ≡ p → Grown w a width k (unless p x) w k
+  pub but_left_out : Space w a width k → (y : ℕ) → y ≡ x → y ≡ p → Grown w a width k (unless p x) w k
   unfolding unless
-  but_left_out s e = same (λ xs. rw (eq-eqb x p e, or-true)) s
+  but_left_out s y i e = same (λ xs. rw (eq-eqb x p (sym i ∙ e), or-true)) s
 
-  pub but_put_in : (x ≡ 0 → ⊥) → (x ≡ p → ⊥) → (w' : List ℕ) (r : ℕ) → Grown w a width k (with x) w' r → Grown w a width k (unless p x) w' r
+  pub but_put_in : (x ≡ 0 → ⊥) → (y : ℕ) → y ≡ x → (y ≡ p → ⊥) → (w' : List ℕ) (r : ℕ) → Grown w a width k (with x) w' r → Grown w a width k (unless p x) w' r
   unfolding unless
-  but_put_in e f w' r g = record {
-    built = λ xs b. rw (ne_eqb _ _ e, ne_eqb _ _ f) (g.built xs b);
+  but_put_in e y i f w' r g = record {
+    built = λ xs b. rw (ne_eqb _ _ e, ne_eqb x p (λ z. f (i ∙ z))) (g.built xs b);
     upto = g.upto;
     outside = g.outside;
   }

@@ -13,8 +13,9 @@ use Rattle.rules.specs.declared.Limits.{Limits}
 use Rattle.rules.specs.Record.{one_of}
 use Rattle.refutation.specs.Memory.{part, Outside}
 use Rattle.refutation.specs.Making.{joined, Built, Grown, Both, union, United, Made.over, Made.late, Made.made, Making, pivots, Tried, Tried.missing, Tried.tried}
-use Rattle.refutation.specs.declared.Derived.{Derived}
-use Rattle.refutation.specs.declared.Derived.TheVariants.{Clause, Fault}
+use Rattle.std.specs.Prelude.{Result, Ok, Err}
+use Rattle.rules.specs.declared.refusals.Fault.{Fault}
+use Rattle.rules.specs.declared.refusals.Fault.TheVariants.{NoPivot, Width, Steps}
 use Rattle.refutation.proofs.PartLaws.{part_front, outside_same, outside_then, outside_wide, outside_set}
 
 none_yet : (w : List ℕ) (a width : ℕ) → Built w a width 0 []
@@ -36,13 +37,13 @@ module _ (l : Limits) (w : List ℕ) (at m : ℕ) (xs w₂ : List ℕ) (r : ℕ)
   around : Outside at (at + (l.width + 1)) w w₂
   around = outside_wide (at + 1) (at + 1 + l.width) at (at + (l.width + 1)) w w₂ u.outside (omega arith) (omega arith)
 
-  pub too_wide : l.width < r → Making l m w at xs w₂ (Fault 20)
+  pub too_wide : l.width < r → Making l m w at xs w₂ (Err Width)
   too_wide h = record { made = over (omega (arith, u.built.counted)); outside = around }
 
-  pub too_late : r ≤ l.width → l.steps ≤ m → Making l m w at xs w₂ (Fault 21)
+  pub too_late : r ≤ l.width → l.steps ≤ m → Making l m w at xs w₂ (Err Steps)
   too_late h j = record { made = late (omega (arith, u.built.counted)) j; outside = around }
 
-  pub kept_so : at + (l.width + 1) ≤ length w → length w₂ ≡ length w → r ≤ l.width → m < l.steps → Making l m w at xs (set w₂ at r) (Clause (eqb r 0))
+  pub kept_so : at + (l.width + 1) ≤ length w → length w₂ ≡ length w → r ≤ l.width → m < l.steps → Making l m w at xs (set w₂ at r) (Ok (eqb r 0))
   kept_so g e h j =
       let z : length xs ≡ r = omega (arith, u.built.counted) in
       let f : drop (at + 1) (set w₂ at r) ≡ drop (at + 1) w₂ = drop-set-lt (at + 1) w₂ at r (omega arith) in
@@ -55,25 +56,25 @@ module _ (l : Limits) (w : List ℕ) (at m : ℕ) (xs w₂ : List ℕ) (r : ℕ)
 pub ruleset resolve_cases = (too_wide, too_late, kept_so)
 
 module _ (l : Limits) (w : List ℕ) (at m s count t size v : ℕ) where
-  pub no_pivot : v ≡ 0 → Tried l m w at (part w s count) (part w t size) v w (Fault 19)
+  pub no_pivot : v ≡ 0 → Tried l m w at (part w s count) (part w t size) v w (Err NoPivot)
   unfolding pivots
   no_pivot e = missing (rw e) (outside_same at (at + (l.width + 1)) w)
 
   module _ (y : ℕ) (q : y ≡ v) (a : Bool) (e : a ≡ one_of (part w s count) (2 * y)) where
-    pub not_plain : a ≡ false → Tried l m w at (part w s count) (part w t size) v w (Fault 19)
+    pub not_plain : a ≡ false → Tried l m w at (part w s count) (part w t size) v w (Err NoPivot)
     unfolding pivots
     not_plain z =
         let f : one_of (part w s count) (2 * v) ≡ false = rw q at (sym e ∙ z) in
         missing (rw (f, and-false)) (outside_same at (at + (l.width + 1)) w)
 
     module _ (b : Bool) (f : b ≡ one_of (part w t size) (2 * y + 1)) where
-      pub not_negated : b ≡ false → Tried l m w at (part w s count) (part w t size) v w (Fault 19)
+      pub not_negated : b ≡ false → Tried l m w at (part w s count) (part w t size) v w (Err NoPivot)
       unfolding pivots
       not_negated z =
           let g : one_of (part w t size) (2 * v + 1) ≡ false = rw q at (sym f ∙ z) in
           missing (rw (g, and-false, and-false)) (outside_same at (at + (l.width + 1)) w)
 
-      pub resolved : a ≡ true → b ≡ true → (v ≡ 0 → ⊥) → (w' : List ℕ) (r : Derived)
+      pub resolved : a ≡ true → b ≡ true → (v ≡ 0 → ⊥) → (w' : List ℕ) (r : Result Bool Fault)
           → Making l m w at (union (part w s count) (part w t size) (2 * y)) w' r → Tried l m w at (part w s count) (part w t size) v w' r
       unfolding pivots
       resolved z z' h w' r g =

@@ -4,27 +4,21 @@ ghost use Rattle.rules.specs.Record.{one_of};
 ghost use Rattle.refutation.specs.Memory.{part};
 ghost use Rattle.refutation.specs.Making.{with, unless, joined, Space, Grown, Apart, Both, union, United};
 
-// The same number, wider.
-pub(crate) fn wide(x: u16) -> usize
-    ensures { result ≡ x }
-{
-    x as usize
+// Where a clause's codes are.
+#[derive(Clone, Copy, Debug, PartialEq, Eq)]
+pub(crate) struct Spot {
+    pub(crate) start: usize,
+    pub(crate) count: usize,
 }
 
-// Whether a code is among `count` places.
-pub(crate) fn has(work: &[u16], start: usize, count: usize, code: usize) -> bool
-    requires { start + count ≤ length work.now }
-    ensures { result ≡ one_of (part work.now start count) code }
+// Whether a code is among those of a clause.
+pub(crate) fn has(work: &[u16], spot: Spot, code: usize) -> bool
+    requires { spot.start + spot.count ≤ length work.now }
+    ensures { result ≡ one_of (part work.now spot.start spot.count) code }
 {
-    let mut i: usize = 0;
-    while i < count {
-        let k = start + i;
-        if code == wide(work[k]) {
-            return true;
-        }
-        i += 1;
-    }
-    false
+    work[spot.start..spot.start + spot.count]
+        .iter()
+        .any(|x| code == usize::from(*x))
 }
 
 // One code more for the clause whose k codes stand from `at` on; past `width` of them it is only told that they are more.
@@ -32,17 +26,16 @@ pub(crate) fn add(work: &mut [u16], at: usize, width: usize, k: usize, x: u16) -
     requires { Space work.old at width k }
     ensures { Grown work.old at width k (with x) work.new result }
 {
-    if width < k {
+    let there = Spot {
+        start: at,
+        count: k,
+    };
+    if width < k || has(work, there, usize::from(x)) {
         return k;
     }
-    if has(work, at, k, x as usize) {
-        return k;
+    if k < width {
+        work[at + k] = x;
     }
-    if k == width {
-        return k + 1;
-    }
-    let i = at + k;
-    work[i] = x;
     k + 1
 }
 
@@ -58,10 +51,7 @@ pub(crate) fn add_but(
     requires { Space work.old at width k }
     ensures { Grown work.old at width k (unless but x) work.new result }
 {
-    if x == 0 {
-        return k;
-    }
-    if x as usize == but {
+    if x == 0 || usize::from(x) == but {
         return k;
     }
     add(work, at, width, k, x)
@@ -73,20 +63,16 @@ pub(crate) fn join(
     at: usize,
     width: usize,
     k: usize,
-    start: usize,
-    count: usize,
+    spot: Spot,
     but: usize,
 ) -> usize
-    requires { Apart work.old at width k start count }
-    ensures { Grown work.old at width k (joined but (part work.old start count)) work.new result }
+    requires { Apart work.old at width k spot.start spot.count }
+    ensures { Grown work.old at width k (joined but (part work.old spot.start spot.count)) work.new result }
 {
     let mut r = k;
-    let mut i: usize = 0;
-    while i < count {
-        let j = start + i;
-        let x = work[j];
+    for i in 0..spot.count {
+        let x = work[spot.start + i];
         r = add_but(work, at, width, r, x, but);
-        i += 1;
     }
     r
 }
@@ -96,15 +82,13 @@ pub(crate) fn unite(
     work: &mut [u16],
     at: usize,
     width: usize,
-    s: usize,
-    count: usize,
-    t: usize,
-    size: usize,
+    first: Spot,
+    second: Spot,
     p: usize,
 ) -> usize
-    requires { Both work.old at width s count t size p }
-    ensures { United work.old at width (union (part work.old s count) (part work.old t size) p) work.new result }
+    requires { Both work.old at width first.start first.count second.start second.count p }
+    ensures { United work.old at width (union (part work.old first.start first.count) (part work.old second.start second.count) p) work.new result }
 {
-    let k = join(work, at, width, 0, s, count, p);
-    join(work, at, width, k, t, size, p + 1)
+    let k = join(work, at, width, 0, first, p);
+    join(work, at, width, k, second, p + 1)
 }
