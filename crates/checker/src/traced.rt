@@ -2,7 +2,7 @@
 ghost use Rattle.std.specs.Prelude.{◌≡◌};
 ghost use Rattle.checker.specs.Traced.{starts_of, TracedAt, Traces};
 
-use rules::{Answer, Limits};
+use rules::{Answer, Limits, Refusal, Sheet};
 use sheets::Outline;
 use trace::Ladder;
 
@@ -10,36 +10,23 @@ use trace::Ladder;
 fn starts_of(h: Outline) -> usize
     ensures { result ≡ starts_of h }
 {
-    let at = h.rungs_at;
-    if at < 7 {
-        return 0;
-    }
-    (at - 7) / 4
+    h.rungs_at.saturating_sub(7) / 4
 }
 
-// The places for inputs and coils are cleared first, and the stack's are free.
-pub fn judge_trace(
-    l: Limits,
-    s: &[u8],
-    c: &[u8],
-    h: Outline,
-    inputs: &mut [u16],
-    coils: &mut [u16],
-    stack: &mut [u16],
-) -> Answer
-    requires { TracedAt l s.now c.now h inputs.old coils.old stack.old }
-    ensures { Traces l s.now c.now h inputs.old coils.old stack.old result }
+// All inputs are off, and the coils are as the sheet starts them.
+pub fn judge_trace(l: Limits, s: &[u8], c: &[u8], h: Outline) -> Result<Answer, Refusal>
+    requires { TracedAt l s.now c.now h }
+    ensures { Traces l s.now c.now h result }
 {
-    let n = inputs.len();
-    base::clear(inputs, n);
-    let m = coils.len();
-    base::clear(coils, m);
-    let starts = starts_of(h);
-    ladder::initialise(s, 7, starts, coils);
+    let mut inputs = [0u16; Sheet::INPUTS];
+    let mut coils = [0u16; Sheet::COILS];
+    let mut stack = [0u16; Sheet::DEPTH];
+    ladder::initialise(s, 7, starts_of(h), &mut coils);
     let t = Ladder {
+        sheet: s,
         from: h.rungs_at,
         rungs: h.rungs,
         inputs: h.inputs,
     };
-    trace::replay(l, s, t, c, inputs, coils, stack)
+    trace::replay(l, t, c, &mut inputs, &mut coils, &mut stack)
 }
