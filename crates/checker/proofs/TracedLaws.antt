@@ -9,7 +9,9 @@ use lib.ListN.{length}
 use Rattle.base.specs.Lists.{fresh}
 use Rattle.base.proofs.ClearLaws.{fresh_length, all_zero}
 use Rattle.rules.specs.declared.Limits.{Limits}
+use Rattle.std.specs.Prelude.{Result, replicate}
 use Rattle.rules.specs.declared.Answer.{Answer}
+use Rattle.rules.specs.declared.refusals.Refusal.{Refusal}
 use Rattle.rules.specs.Sheet.{Sheet}
 use Rattle.rules.specs.WriteSheet.{write_sheet, WithinSheet}
 use Rattle.rules.specs.Certificate.{read_scans}
@@ -81,7 +83,7 @@ module _ (l : Limits) (s c : List ℕ) (h : Outline) (inputs coils w : List ℕ)
             (starts_named_here l t within inputs coils₁ w a.inputs_room room₁ a.stack_room s is_sheet);
       }
 
-      pub judged_so : (inputs₂ coils₃ w' : List ℕ) (r : Answer)
+      pub judged_so : (inputs₂ coils₃ w' : List ℕ) (r : Result Answer Refusal)
           → Replays l s (record { from = h.rungs_at; rungs = h.rungs; inputs = h.inputs }) c inputs₁ inputs₂ coils₂ coils₃ w w' r
           → answer_of r ≡ judge_scans t c (unplayed t) (read_scans l t c)
       unfolding replay_here ladder_at
@@ -90,7 +92,7 @@ module _ (l : Limits) (s c : List ℕ) (h : Outline) (inputs coils w : List ℕ)
 -- the whole function's answer, of every good sheet that stands there
 module _ (l : Limits) (s c : List ℕ) (h : Outline) (inputs coils w : List ℕ) (coils₁ : List ℕ) (e : coils₁ ≡ fresh (length coils) coils) (n : ℕ) (q : n ≡ starts_of h)
     (coils₂ : List ℕ) (i : Initialises s 7 n coils₁ coils₂) (long₂ : length coils₂ ≡ length coils₁) (inputs₁ : List ℕ) (ei : inputs₁ ≡ fresh (length inputs) inputs) where
-  pub traces : (inputs₂ coils₃ w' : List ℕ) (r : Answer)
+  pub traces : (inputs₂ coils₃ w' : List ℕ) (r : Result Answer Refusal)
       → Replays l s (record { from = h.rungs_at; rungs = h.rungs; inputs = h.inputs }) c inputs₁ inputs₂ coils₂ coils₃ w w' r
       → Traces l s c h inputs coils w r
   traces inputs₂ coils₃ w' r f a = judged_so l s c h inputs coils w a coils₁ e n q coils₂ i long₂ inputs₁ ei inputs₂ coils₃ w' r f
