@@ -7,8 +7,12 @@ use mathlib.Core.List.{List, [], ◌∷◌, ◌++◌}
 use native.Mathlib.Omega.{arith}
 use lib.ListN.{length, set, length-set}
 use borrow.Author.Tests.{le-leb, lt-leb}
-use Rattle.rules.specs.Clauses.{Lit.plain, Lit.negated, Clause, place, place_of, contact_clauses, not_clauses, and_clauses, or_clauses}
+use Rattle.base.specs.Pick.{pick}
+use Rattle.rules.specs.Clauses.{Lit.plain, Lit.negated, Clause, place, place_of}
+use Rattle.clauses.specs.declared.gates.Gate.{Gate}
+use Rattle.clauses.specs.declared.gates.Gate.TheVariants.{Same, Fixed, Inverse, Both, Either}
 use Rattle.clauses.specs.Emits.{stored, emits, Emitted, signed}
+use Rattle.clauses.specs.Gates.{gate_clauses}
 
 module _ (w : List ℕ) (n a b c : ℕ) where
   pub no_room : length w / 3 ≤ n → w ≡ stored w n a b c
@@ -47,36 +51,37 @@ three w w₁ w₂ w₃ n x y z e f g =
     record { wrote = rw (a, ← e, ← f) g; counted = refl }
 
 module _ (w w₁ : List ℕ) (n g : ℕ) where
-  pub constant_on : (on : Bool) → on ≡ true → w₁ ≡ stored w n (2 * g) 0 0 → Emitted w n (signed on g) w₁ (n + 1)
+  pub unit_emitted : (on : Bool) (a : ℕ) → a ≡ pick on (2 * g) (2 * g + 1) → w₁ ≡ stored w n a 0 0 → Emitted w n (signed on g) w₁ (n + 1)
   unfolding place
-  constant_on on q e = rw q (one w w₁ n (plain g ∷ []) e)
+  unit_emitted true a e f = one w w₁ n (plain g ∷ []) (rw e at f)
+  unit_emitted false a e f = one w w₁ n (negated g ∷ []) (rw e at f)
 
-  pub constant_off : (on : Bool) → on ≡ false → w₁ ≡ stored w n (2 * g + 1) 0 0 → Emitted w n (signed on g) w₁ (n + 1)
-  unfolding place
-  constant_off on q e = rw q (one w w₁ n (negated g ∷ []) e)
+  pub fixed_emitted : (x : Gate) (on : Bool) → x ≡ Fixed on → (r : ℕ) → Emitted w n (signed on g) w₁ r → Emitted w n (gate_clauses g x) w₁ r
+  unfolding gate_clauses
+  fixed_emitted x on k r e = rw k e
 
   module _ (w₂ : List ℕ) where
-    pub contact_emitted : (v : ℕ) → w₁ ≡ stored w n (2 * g + 1) (2 * v) 0 → w₂ ≡ stored w₁ (n + 1) (2 * g) (2 * v + 1) 0
-        → Emitted w n (contact_clauses g v) w₂ (n + 2)
-    unfolding place
-    contact_emitted v e f = two w w₁ w₂ n (negated g ∷ plain v ∷ []) (plain g ∷ negated v ∷ []) e f
+    pub same_emitted : (z : Gate) (v : ℕ) → z ≡ Same v → w₁ ≡ stored w n (2 * g + 1) (2 * v) 0 → w₂ ≡ stored w₁ (n + 1) (2 * g) (2 * v + 1) 0
+        → Emitted w n (gate_clauses g z) w₂ (n + 2)
+    unfolding place gate_clauses
+    same_emitted z v k e f = rw k (two w w₁ w₂ n (negated g ∷ plain v ∷ []) (plain g ∷ negated v ∷ []) e f)
 
-    pub inverse_emitted : (x : ℕ) → w₁ ≡ stored w n (2 * g + 1) (2 * x + 1) 0 → w₂ ≡ stored w₁ (n + 1) (2 * g) (2 * x) 0
-        → Emitted w n (not_clauses g x) w₂ (n + 2)
-    unfolding place
-    inverse_emitted x e f = two w w₁ w₂ n (negated g ∷ negated x ∷ []) (plain g ∷ plain x ∷ []) e f
+    pub inverse_emitted : (z : Gate) (x : ℕ) → z ≡ Inverse x → w₁ ≡ stored w n (2 * g + 1) (2 * x + 1) 0 → w₂ ≡ stored w₁ (n + 1) (2 * g) (2 * x) 0
+        → Emitted w n (gate_clauses g z) w₂ (n + 2)
+    unfolding place gate_clauses
+    inverse_emitted z x k e f = rw k (two w w₁ w₂ n (negated g ∷ negated x ∷ []) (plain g ∷ plain x ∷ []) e f)
 
-    pub both_emitted : (w₃ : List ℕ) (x y : ℕ) → w₁ ≡ stored w n (2 * g + 1) (2 * x) 0 → w₂ ≡ stored w₁ (n + 1) (2 * g + 1) (2 * y) 0
-        → w₃ ≡ stored w₂ (n + 2) (2 * g) (2 * x + 1) (2 * y + 1) → Emitted w n (and_clauses g x y) w₃ (n + 3)
-    unfolding place
-    both_emitted w₃ x y e f h = three w w₁ w₂ w₃ n (negated g ∷ plain x ∷ []) (negated g ∷ plain y ∷ []) (plain g ∷ negated x ∷ negated y ∷ []) e f h
+    pub both_emitted : (w₃ : List ℕ) (z : Gate) (x y : ℕ) → z ≡ Both x y → w₁ ≡ stored w n (2 * g + 1) (2 * x) 0 → w₂ ≡ stored w₁ (n + 1) (2 * g + 1) (2 * y) 0
+        → w₃ ≡ stored w₂ (n + 2) (2 * g) (2 * x + 1) (2 * y + 1) → Emitted w n (gate_clauses g z) w₃ (n + 3)
+    unfolding place gate_clauses
+    both_emitted w₃ z x y k e f h = rw k (three w w₁ w₂ w₃ n (negated g ∷ plain x ∷ []) (negated g ∷ plain y ∷ []) (plain g ∷ negated x ∷ negated y ∷ []) e f h)
 
-    pub either_emitted : (w₃ : List ℕ) (x y : ℕ) → w₁ ≡ stored w n (2 * g) (2 * x + 1) 0 → w₂ ≡ stored w₁ (n + 1) (2 * g) (2 * y + 1) 0
-        → w₃ ≡ stored w₂ (n + 2) (2 * g + 1) (2 * x) (2 * y) → Emitted w n (or_clauses g x y) w₃ (n + 3)
-    unfolding place
-    either_emitted w₃ x y e f h = three w w₁ w₂ w₃ n (plain g ∷ negated x ∷ []) (plain g ∷ negated y ∷ []) (negated g ∷ plain x ∷ plain y ∷ []) e f h
+    pub either_emitted : (w₃ : List ℕ) (z : Gate) (x y : ℕ) → z ≡ Either x y → w₁ ≡ stored w n (2 * g) (2 * x + 1) 0 → w₂ ≡ stored w₁ (n + 1) (2 * g) (2 * y + 1) 0
+        → w₃ ≡ stored w₂ (n + 2) (2 * g + 1) (2 * x) (2 * y) → Emitted w n (gate_clauses g z) w₃ (n + 3)
+    unfolding place gate_clauses
+    either_emitted w₃ z x y k e f h = rw k (three w w₁ w₂ w₃ n (plain g ∷ negated x ∷ []) (plain g ∷ negated y ∷ []) (negated g ∷ plain x ∷ plain y ∷ []) e f h)
 
-pub ruleset clause_cases = (constant_on, constant_off, contact_emitted, inverse_emitted, both_emitted, either_emitted)
+pub ruleset clause_cases = (unit_emitted, fixed_emitted, same_emitted, inverse_emitted, both_emitted, either_emitted)
 
 pub emits_append : (w : List ℕ) (n : ℕ) (cs ds : List Clause) → emits w n (cs ++ ds) ≡ emits (emits w n cs) (n + length cs) ds
 unfolding emits
