@@ -17,64 +17,7 @@ use Rattle.clauses.specs.declared.gates.Gate.TheVariants.{Same, Fixed, Inverse, 
 use Rattle.clauses.specs.Emits.{Emitted}
 use Rattle.clauses.specs.Gates.{gate_clauses, values, Narrow, Definable}
 use Rattle.clauses.specs.Stack.{stk, step, vars_of, part_clauses, takes, gate_of, Ready, Put, Reaches, Reached, Enterable, Entered}
-use Rattle.clauses.proofs.StackLaws.{stk_at, put}
-
-module _ (p : Part) (map : List ℕ) (base : ℕ) (stack : List ℕ) (depth : ℕ) (q : Reached p map base stack depth) where
-  pub input_fits : (j : ℕ) → p ≡ Input j → Fits w16 (base + j)
-  unfolding Reaches
-  input_fits j e = let h : base + j < 32768 = rw e at q.reaches in record { fits = omega arith }
-
-  pub coil_reached : (c : ℕ) → p ≡ Coil c → c < length map
-  unfolding Reaches
-  coil_reached c e = rw e at q.reaches
-
-  pub input_gate : (j : ℕ) → p ≡ Input j → Some (Same (base + j)) ≡ gate_of (vars_of map base) p (stk stack depth)
-  unfolding gate_of
-  input_gate j e = rw e
-
-  pub coil_gate : (c : ℕ) → p ≡ Coil c → Some (Same (get_or map c 0)) ≡ gate_of (vars_of map base) p (stk stack depth)
-  unfolding gate_of
-  coil_gate c e = rw e
-
-  pub constant_gate : (on : Bool) → p ≡ Constant on → Some (Fixed on) ≡ gate_of (vars_of map base) p (stk stack depth)
-  unfolding gate_of
-  constant_gate on e = rw e
-
-  last : 1 ≤ depth → get_or (stk stack depth) 0 0 ≡ get_or stack (depth - 1) 0
-  last h = stk_at stack depth 0 (depth - 1) (omega arith)
-
-  before_last : 2 ≤ depth → get_or (stk stack depth) 1 0 ≡ get_or stack (depth - 2) 0
-  before_last h = stk_at stack depth 1 (depth - 2) (omega arith)
-
-  pub one_value : p ≡ Not → 1 ≤ depth
-  unfolding takes
-  one_value e = rw e at q.enough
-
-  pub two_values : p ≡ And → 2 ≤ depth
-  unfolding takes
-  two_values e = rw e at q.enough
-
-  pub two_values_or : p ≡ Or → 2 ≤ depth
-  unfolding takes
-  two_values_or e = rw e at q.enough
-
-  pub not_gate : p ≡ Not → Some (Inverse (get_or stack (depth - 1) 0)) ≡ gate_of (vars_of map base) p (stk stack depth)
-  unfolding gate_of
-  not_gate e = rw (e, last (one_value e))
-
-  pub and_gate : p ≡ And → Some (Both (get_or stack (depth - 2) 0) (get_or stack (depth - 1) 0)) ≡ gate_of (vars_of map base) p (stk stack depth)
-  unfolding gate_of
-  and_gate e = let h : 2 ≤ depth = two_values e in rw (e, before_last h, last (omega arith))
-
-  pub or_gate : p ≡ Or → Some (Either (get_or stack (depth - 2) 0) (get_or stack (depth - 1) 0)) ≡ gate_of (vars_of map base) p (stk stack depth)
-  unfolding gate_of
-  or_gate e = let h : 2 ≤ depth = two_values_or e in rw (e, before_last h, last (omega arith))
-
-pub closing_gate : (p : Part) (map : List ℕ) (base : ℕ) (st : List ℕ) → p ≡ Closing → None ≡ gate_of (vars_of map base) p st
-unfolding gate_of
-closing_gate p map base st e = rw e
-
-pub ruleset gate_cases = (input_fits, coil_reached, input_gate, coil_gate, constant_gate, one_value, two_values, two_values_or, not_gate, and_gate, or_gate, closing_gate)
+use Rattle.clauses.proofs.StackLaws.{last, before_last, put}
 
 -- what the record says of its variable has its clauses, and takes its values
 record Told (p : Part) (map : List ℕ) (base g : ℕ) (stack : List ℕ) (depth : ℕ) (gate : Gate) : Type 0 where
@@ -101,7 +44,7 @@ told Not map base g stack depth gate e =
       opens = λ x. cc;
       takes_is = refl;
       clauses_are = refl;
-      narrow = λ r m t s. rw (stk_at stack depth 0 (depth - 1) (omega arith)) (s (depth - 1) (omega arith));
+      narrow = λ r m t s. rw (last stack depth (omega arith)) (s (depth - 1) (omega arith));
     })
 told And map base g stack depth gate e =
     let z : gate ≡ Both (get_or (stk stack depth) 1 0) (get_or (stk stack depth) 0 0) = cc in
@@ -110,8 +53,8 @@ told And map base g stack depth gate e =
       takes_is = refl;
       clauses_are = refl;
       narrow = λ r m t s. (
-        rw (stk_at stack depth 1 (depth - 2) (omega arith)) (s (depth - 2) (omega arith)),
-        rw (stk_at stack depth 0 (depth - 1) (omega arith)) (s (depth - 1) (omega arith)),
+        rw (before_last stack depth (omega arith)) (s (depth - 2) (omega arith)),
+        rw (last stack depth (omega arith)) (s (depth - 1) (omega arith)),
       );
     })
 told Or map base g stack depth gate e =
@@ -121,8 +64,8 @@ told Or map base g stack depth gate e =
       takes_is = refl;
       clauses_are = refl;
       narrow = λ r m t s. (
-        rw (stk_at stack depth 1 (depth - 2) (omega arith)) (s (depth - 2) (omega arith)),
-        rw (stk_at stack depth 0 (depth - 1) (omega arith)) (s (depth - 1) (omega arith)),
+        rw (before_last stack depth (omega arith)) (s (depth - 2) (omega arith)),
+        rw (last stack depth (omega arith)) (s (depth - 1) (omega arith)),
       );
     })
 told Closing map base g stack depth gate e = cc

@@ -40,11 +40,19 @@ stk_drop w (suc d) (suc n) h =
     rw e (stk_drop w d n (omega arith))
 
 -- the value put k values before the last
-pub stk_at : (w : List ℕ) (d k i : ℕ) → i + k + 1 ≡ d → get_or (stk w d) k 0 ≡ get_or w i 0
+stk_at : (w : List ℕ) (d k i : ℕ) → i + k + 1 ≡ d → get_or (stk w d) k 0 ≡ get_or w i 0
 unfolding stk
 stk_at w zero k i h = absurd (omega arith)
 stk_at w (suc d) zero i h = let e : d ≡ i = omega arith in rw e
 stk_at w (suc d) (suc k) i h = stk_at w d k i (omega arith)
+
+pub last : (w : List ℕ) (d : ℕ) → 1 ≤ d → get_or (stk w d) 0 0 ≡ get_or w (d - 1) 0
+last w d h = stk_at w d 0 (d - 1) (omega arith)
+
+pub before_last : (w : List ℕ) (d : ℕ) → 2 ≤ d → get_or (stk w d) 1 0 ≡ get_or w (d - 2) 0
+before_last w d h = stk_at w d 1 (d - 2) (omega arith)
+
+pub ruleset operand_cases = (last, before_last)
 
 -- values that fit, and one more at a place among or after them
 fits_set : (w : List ℕ) (d i v : ℕ) → i < length w → v < 32768 → ((j : ℕ) → j < d → get_or w j 0 < 32768) → i ≤ d

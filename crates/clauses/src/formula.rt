@@ -15,7 +15,7 @@ pub struct Step {
 }
 
 // What the record says of its variable, over the variables on the stack; None of a record that closes the formula.
-#[tactic(auto, using(crate::proofs::EnterLaws::gate_cases), unfolding(crate::specs::Stack::Reaches, crate::specs::Stack::takes))]
+#[tactic(auto, using(crate::proofs::StackLaws::operand_cases), unfolding(crate::specs::Stack::Reaches, crate::specs::Stack::takes, crate::specs::Stack::gate_of))]
 fn gate_of(p: Part, vars: Variables, stack: &[u16], depth: usize) -> Option<Gate>
     requires { Reached p vars.coils.now vars.inputs stack.now depth }
     ensures { result ≡ gate_of (vars_of vars.entry.coils.now vars.entry.inputs) p (stk stack.now depth) }
