@@ -1,15 +1,14 @@
 -- Clauses written one by one, by the tests of the code.
 -- Assumes nothing.
 use Prim.Native.Nat.{ℕ, suc, ◌+◌, ◌*◌, ◌/◌, ◌≤◌, ◌<◌}
-use mathlib.Core.Path.{◌≡◌, refl, ap, ◌∙◌}
+use mathlib.Core.Path.{◌≡◌, refl}
 use mathlib.Core.Bool.{Bool, true, false}
 use mathlib.Core.List.{List, [], ◌∷◌, ◌++◌}
 use native.Mathlib.Omega.{arith}
 use lib.ListN.{length, set, length-set}
 use borrow.Author.Tests.{le-leb, lt-leb}
 use Rattle.base.specs.Pick.{pick}
-use Rattle.rules.specs.Clauses.{Lit.plain, Lit.negated, Clause, place, place_of}
-use Rattle.clauses.specs.declared.gates.Gate.{Gate}
+use Rattle.rules.specs.Clauses.{Clause, place, place_of}
 use Rattle.clauses.specs.declared.gates.Gate.TheVariants.{Same, Fixed, Inverse, Both, Either}
 use Rattle.clauses.specs.Emits.{stored, emits, Emitted, signed}
 use Rattle.clauses.specs.Gates.{gate_clauses}
@@ -56,13 +55,13 @@ module _ (w : List ℕ) (n g : ℕ) where
 
   pub both_emitted : (x y : ℕ)
       → Emitted w n (gate_clauses g (Both x y))
-        (stored (stored (stored w n (2 * g + 1) (2 * x) 0) (n + 1) (2 * g + 1) (2 * y) 0) (n + 2) (2 * g) (2 * x + 1) (2 * y + 1)) (n + 3)
+      (stored (stored (stored w n (2 * g + 1) (2 * x) 0) (n + 1) (2 * g + 1) (2 * y) 0) (n + 2) (2 * g) (2 * x + 1) (2 * y + 1)) (n + 3)
   unfolding place gate_clauses emits
   both_emitted x y = record { wrote = rw (← third); counted = refl }
 
   pub either_emitted : (x y : ℕ)
       → Emitted w n (gate_clauses g (Either x y))
-        (stored (stored (stored w n (2 * g) (2 * x + 1) 0) (n + 1) (2 * g) (2 * y + 1) 0) (n + 2) (2 * g + 1) (2 * x) (2 * y)) (n + 3)
+      (stored (stored (stored w n (2 * g) (2 * x + 1) 0) (n + 1) (2 * g) (2 * y + 1) 0) (n + 2) (2 * g + 1) (2 * x) (2 * y)) (n + 3)
   unfolding place gate_clauses emits
   either_emitted x y = record { wrote = rw (← third); counted = refl }
 

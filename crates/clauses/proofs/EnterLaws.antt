@@ -1,22 +1,18 @@
 -- One formula record entered, by its kind.
 -- Assumes nothing.
 use Prim.Native.Nat.{ℕ, ◌+◌, ◌-◌, ◌≤◌, ◌<◌}
-use mathlib.Core.Path.{◌≡◌, refl, sym}
-use mathlib.Core.Bool.{Bool}
+use mathlib.Core.Path.{◌≡◌, refl}
 use mathlib.Core.List.{List}
 use native.Mathlib.Omega.{arith}
 use lib.ListN.{length, get_or, set}
-use mir.Val.{Fits}
-use mir.Syntax.{w16}
-use Rattle.std.specs.Prelude.{Option, Some, None}
-use Rattle.rules.specs.Clauses.{Clause}
+use Rattle.std.specs.Prelude.{Some, None}
 use Rattle.formulas.specs.declared.Part.{Part}
 use Rattle.formulas.specs.declared.Part.TheVariants.{Input, Coil, Constant, Not, And, Or, Closing}
 use Rattle.clauses.specs.declared.gates.Gate.{Gate}
 use Rattle.clauses.specs.declared.gates.Gate.TheVariants.{Same, Fixed, Inverse, Both, Either}
 use Rattle.clauses.specs.Emits.{Emitted}
 use Rattle.clauses.specs.Gates.{gate_clauses, values, Narrow, Definable}
-use Rattle.clauses.specs.Stack.{stk, step, vars_of, part_clauses, takes, gate_of, Ready, Put, Reaches, Reached, Enterable, Entered}
+use Rattle.clauses.specs.Stack.{stk, step, vars_of, part_clauses, takes, gate_of, Ready, Reaches, Reached, Enterable, Entered}
 use Rattle.clauses.proofs.StackLaws.{last, before_last, put}
 
 -- what the record says of its variable has its clauses, and takes its values

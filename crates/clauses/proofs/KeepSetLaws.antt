@@ -20,7 +20,7 @@ use Rattle.clauses.specs.Emits.{signed, Emitted}
 use Rattle.clauses.specs.Stack.{vars_of}
 use Rattle.clauses.specs.Formed.{Formed, FormulaAt, Written, TopWritten, FormulaPassed}
 use Rattle.clauses.specs.Runged.{RungsWritten}
-use Rattle.clauses.specs.Sets.{Given, SetThere, Scratch, SetWritten}
+use Rattle.clauses.specs.Sets.{SetThere, Scratch, SetWritten}
 use Rattle.clauses.proofs.FlatLaws.{few_clauses}
 use Rattle.clauses.proofs.SheetLaws.{after_condition}
 use Rattle.clauses.proofs.SetPartLaws.{Held, held, small_numbered, agree_numbered, ladder_written, condition_first, agree_ladder, after_small, condition_formed, invariant_formed, invariant_is, before_room}

@@ -14,5 +14,5 @@ pub mod SetLaws
 pub mod KeepSetLaws
 pub mod SafeSetLaws
 pub mod PlacesLaws
--- pub mod TranslateLaws
+pub mod TranslateLaws
 pub mod FewLaws

@@ -20,7 +20,7 @@ use Rattle.clauses.specs.Stack.{vars_of}
 use Rattle.clauses.specs.Formed.{Formed, FormulaAt, Written, TopWritten, FormulaPassed}
 use Rattle.clauses.specs.Runged.{RungsAt, RungsWritten}
 use Rattle.clauses.specs.Started.{StartsAt, StartsWritten}
-use Rattle.clauses.specs.Sets.{Given, SetThere, Scratch, SetWritten}
+use Rattle.clauses.specs.Sets.{SetThere, Scratch, SetWritten}
 use Rattle.clauses.proofs.EmitLaws.{emits_append, emits_none}
 use Rattle.clauses.proofs.FlatLaws.{few_clauses}
 use Rattle.clauses.proofs.SheetLaws.{after_condition, after_rung_bytes, after_starts}

@@ -5,5 +5,4 @@ pub mod Formed
 pub mod Runged
 pub mod Started
 pub mod Sets
-
--- pub mod Translated
+pub mod Translated

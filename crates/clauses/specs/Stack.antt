@@ -41,7 +41,7 @@ takes And = 2
 takes Or = 2
 takes Closing = 0
 
--- the same, as what it says of its variable; a closing record says nothing
+-- what a record says of its own variable; a closing record says nothing
 unfoldable pub gate_of : Vars → Part → List ℕ → Option Gate
 gate_of vs (Input j) st = Some (Same (vs.input j))
 gate_of vs (Coil c) st = Some (Same (vs.coil c))

@@ -8,7 +8,7 @@ use super::{Variables, Wrote};
 use formulas::Part;
 
 // The stack's height and the number of the next clause after a formula record.
-#[derive(Clone, Copy)]
+#[derive(Clone, Copy, Debug, PartialEq, Eq)]
 pub struct Step {
     pub depth: usize,
     pub n: usize,

@@ -4,7 +4,7 @@ ghost use Rattle.clauses.specs.Emits.{stored, Emitted, Small, signed};
 ghost use Rattle.clauses.specs.Gates.{Definable, gate_clauses, values};
 
 // What a formula record says of its own variable: that of a contact, a constant, or what becomes of one variable or two.
-#[derive(Clone, Copy)]
+#[derive(Clone, Copy, Debug, PartialEq, Eq)]
 pub enum Gate {
     Same(u16),
     Fixed(bool),

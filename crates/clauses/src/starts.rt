@@ -5,7 +5,7 @@ ghost use Rattle.clauses.specs.Started.{start_at, StartsAt, StartsWritten};
 use super::gates::unit;
 
 // A coil's start value, and the place of the START record that comes next.
-#[derive(Clone, Copy)]
+#[derive(Clone, Copy, Debug, PartialEq, Eq)]
 pub struct Begun {
     pub on: bool,
     pub at: usize,
