@@ -1,10 +1,11 @@
-// A reader that holds the lent bytes and its place: thin functions over it, and above them functions of a slice and a number.
+// A reader that holds the lent bytes and its place: thin methods over the functions of a slice and a number.
 #![tactic(auto)]
 
 ghost use Rattle.std.specs.Prelude.{◌≡◌};
-ghost use Rattle.records.specs.Found.{FoundAt};
+ghost use Rattle.records.specs.Found.{FoundAt, DueBy, byte_at, number_at};
 
-use records::{NoRecord, Record};
+use records::{Common, Kind, NoRecord, Record};
+use rules::Fault;
 
 #[derive(Clone, Copy, Debug)]
 pub struct Reader<'a> {
@@ -12,33 +13,40 @@ pub struct Reader<'a> {
     pub at: usize,
 }
 
-// The reader at the top of the bytes.
-pub fn new<'a>(src: &'a [u8]) -> Reader<'a>
-    ensures { (result.src ≡ src.entry) × (result.at ≡ 0) }
-{
-    Reader { src, at: 0 }
-}
-
-// What stands at the reader's place.
-pub fn next<'a>(r: Reader<'a>) -> Result<Record, NoRecord>
-    ensures { FoundAt r.entry.src.now r.entry.at result }
-{
-    records::record_at(r.src, r.at)
-}
-
-// The first record of a sheet or a certificate.
-pub fn first(s: &[u8]) -> Result<Record, NoRecord>
-    ensures { FoundAt s.now 0 result }
-{
-    next(new(s))
-}
-
-// The record at an offset: at the top through the reader.
-pub fn found_at(s: &[u8], at: usize) -> Result<Record, NoRecord>
-    ensures { FoundAt s.now at result }
-{
-    if at == 0 {
-        return first(s);
+impl<'a> Reader<'a> {
+    // The reader at the top of the bytes.
+    pub fn new(src: &'a [u8]) -> Reader<'a>
+        ensures { (result.src ≡ src.entry) × (result.at ≡ 0) }
+    {
+        Reader { src, at: 0 }
     }
-    records::record_at(s, at)
+
+    // What stands at the reader's place.
+    pub fn next(self) -> Result<Record, NoRecord>
+        ensures { FoundAt self.entry.src.now self.entry.at result }
+    {
+        records::record_at(self.src, self.at)
+    }
+
+    // The whole record that is due at the reader's place, where only some kinds are allowed.
+    pub fn due<F: FnOnce(Kind) -> bool>(self, faults: Common, allowed: F) -> Result<Record, Fault>
+        requires { (k : _) → F.pre allowed k }
+        ensures { DueBy (F.post allowed) self.entry.src.now self.entry.at faults result }
+    {
+        records::due_at(self.src, self.at, faults, allowed)
+    }
+
+    // The byte `k` bytes into the record at the reader's place.
+    pub fn byte(self, k: usize) -> u8
+        ensures { result ≡ byte_at self.entry.src.now self.entry.at k }
+    {
+        records::byte_at(self.src, self.at, k)
+    }
+
+    // The number `k` bytes into it.
+    pub fn number(self, k: usize) -> u16
+        ensures { result ≡ number_at self.entry.src.now self.entry.at k }
+    {
+        records::number_at(self.src, self.at, k)
+    }
 }

@@ -1,3 +1,4 @@
 pub mod FoundLaws
 pub mod FrontLaws
 pub mod DueLaws
+pub mod KindLaws

@@ -1,30 +1,35 @@
 -- A whole record, one that is cut, and whatever stands at the draft's place.
 -- Assumes nothing.
 use Prim.Native.Nat.{ℕ, ◌+◌}
-use mathlib.Core.Path.{◌≡◌, refl, sym, ap, ◌∙◌}
-use mathlib.Core.Bool.{Bool, true, false}
+use mathlib.Core.Path.{◌≡◌, refl, ap, ◌∙◌}
+use mathlib.Core.Bool.{true, false}
 use mathlib.Core.List.{List}
 use native.Mathlib.Omega.{arith}
-use lib.ListN.{get_or, drop}
-use borrow.Author.Tests.{ne_eqb, not-true, not-false}
-use Rattle.base.specs.Pick.{pick}
+use lib.ListN.{drop}
+use borrow.Author.Tests.{ne_eqb}
 use Rattle.rules.specs.declared.Limits.{Limits}
-use Rattle.rules.specs.Record.{body_length, rows, front, record_length, one_of}
-use Rattle.rules.specs.Walk.{Move.no, Move.done}
+use Rattle.rules.specs.Record.{body_length, rows, record_length, one_of}
+use Rattle.rules.specs.Walk.{Move.done}
 use Rattle.rules.specs.Formula.{Formula}
 use Rattle.rules.specs.Sheet.{Sheet}
 use Rattle.rules.specs.ReadFormula.{formula_kinds}
 use Rattle.rules.specs.ReadSheet.{Spot, Spot.at_head, Spot.at_starts, Spot.at_rungs, Spot.at_end, Draft, SheetMove, spot_kinds, read_head, read_start, read_entry, read_rung, read_condition, sheet_move, sheet_reader}
-use Rattle.records.specs.Found.{record_at}
-use Rattle.records.specs.declared.Found.{Found}
-use Rattle.records.specs.declared.Found.TheVariants.{Nothing, NoKind, Cut, Whole}
-use Rattle.sheets.specs.Draft.{spot_no, Heading, Ending, Running, Starting, Laid, Stands, After, Stepped, HeadReads, StartReads, EntryReads, RungReads, ConditionReads, WholeReads, CutReads, Answers}
+use Rattle.std.specs.Prelude.{Result, Ok, Err, None}
+use Rattle.rules.specs.declared.refusals.Fault.{Fault}
+use Rattle.records.specs.Kinds.{byte_of}
+use Rattle.records.specs.declared.kind.Kind.{Kind}
+use Rattle.records.specs.declared.kind.Kind.TheVariants.{Head, Start, Rung, Condition, End}
+use Rattle.records.specs.declared.Record.{Record}
+use Rattle.records.specs.declared.Common.{Common}
+use Rattle.rules.specs.declared.refusals.Fault.TheVariants.{SheetEnds, SheetKind}
+use Rattle.records.specs.Found.{DueAt}
+use Rattle.records.proofs.KindLaws.{byte_inj}
+use Rattle.records.proofs.DueLaws.{due_allowed, move_refused, move_due}
+use Rattle.sheets.specs.Draft.{Step, spot_of, Heading, Ending, Running, Starting, Laid, Stands, After, Stepped, HeadReads, StartReads, EntryReads, RungReads, ConditionReads, WholeReads, Answers}
 use Rattle.sheets.specs.declared.Kept.{Kept}
-use Rattle.sheets.specs.declared.Step.{Step}
-use Rattle.sheets.specs.declared.Step.TheVariants.{No, Done}
 use Rattle.sheets.proofs.KindLaws.{runs_formula, starts_runs}
 use Rattle.sheets.proofs.TotalLaws.{entry_bytes_lem}
-use Rattle.records.proofs.FrontLaws.{front_whole, move_nothing, move_unknown, move_cut, move_whole, whole_ends}
+use Rattle.records.proofs.FrontLaws.{whole_ends}
 
 never : {A : Type 0} → false ≡ true → A
 never e = let z : ◌≡◌ {A = ℕ} 0 1 = cc in absurd (omega arith)
@@ -82,102 +87,84 @@ module _ (d : Kept) (t : Sheet) (fs : List Formula) where
     entry_kind at_rungs h = runs_formula k h n3 n4
     entry_kind at_end h = never (rw (ne_eqb _ _ n5) at h)
 
-module _ (l : Limits) (s m : List ℕ) (d : Kept) (k next : ℕ) (a : Bool) (ea : (x : Spot) → d.spot ≡ spot_no x → a ≡ one_of (spot_kinds x) k) where
-  pub whole_strange : a ≡ false → WholeReads l s m m d k next (No 3)
-  unfolding After
-  whole_strange h t st q = record { after = rw (← ea t.spot st.spot_is, h); rest = refl }
+-- a whole record of a kind that is allowed
+module _ (l : Limits) (s m : List ℕ) (d : Kept) (x : Record) (r : Step) where
+  -- its move
+  moves : (m' : List ℕ) (t : Draft) (v : SheetMove) → sheet_move l t (byte_of x.kind) (drop d.at s) ≡ v
+      → Stepped l m m' d t v x.next r → Stepped l m m' d t (sheet_move l t (byte_of x.kind) (drop d.at s)) x.next r
+  moves m' t v e y = rw e y
 
-  module _ (h : a ≡ true) where
-    fits : (t : Draft) → Stands l m d t → one_of (spot_kinds t.spot) k ≡ true
-    fits t st = sym (ea t.spot st.spot_is) ∙ h
+  same : (t : Draft) (v : SheetMove) → After l m d t v x.next r → Stepped l m m d t v x.next r
+  same t v y = record { after = y; rest = refl }
 
-    fits_at : (j : ℕ) → k ≡ j → (t : Draft) → Stands l m d t → one_of (spot_kinds t.spot) j ≡ true
-    fits_at j e t st = rw e at (fits t st)
+  pub whole_head : x.kind ≡ Head → HeadReads l s d x.next r → WholeReads l s m m d x r
+  unfolding sheet_move record_length body_length rows
+  whole_head e f t st a q =
+      moves m t (read_head l (drop d.at s)) (rw e)
+      (same t _ (f m t st (at_head_lem d t.sheet t.stack.values t.spot (rw e at a) st.laid) (rw e at q)))
 
-    -- the move of an allowed kind
-    moves : (m' : List ℕ) (t : Draft) (r : Step) (x : SheetMove) → Stands l m d t → sheet_move l t k (drop d.at s) ≡ x
-        → Stepped l m m' d t x next r → Stepped l m m' d t (pick (one_of (spot_kinds t.spot) k) (sheet_move l t k (drop d.at s)) (no 3)) next r
-    moves m' t r x st e y = rw (fits t st, e) y
+  pub whole_start : x.kind ≡ Start → StartReads l s d x.next r → WholeReads l s m m d x r
+  unfolding sheet_move record_length body_length rows
+  whole_start e f t st a q =
+      moves m t (read_start t (drop d.at s)) (rw e)
+      (same t _ (f m t st (at_start d t.sheet t.stack.values t.spot (rw e at a) st.laid) (rw e at q)))
 
-    same : (t : Draft) (r : Step) (x : SheetMove) → After l m d t x next r → Stepped l m m d t x next r
-    same t r x y = record { after = y; rest = refl }
+  pub whole_rung : (m' : List ℕ) → x.kind ≡ Rung → RungReads l s m m' d x.next r → WholeReads l s m m' d x r
+  unfolding sheet_move record_length body_length rows
+  whole_rung m' e f t st a q =
+      moves m' t (read_rung t (drop d.at s)) (rw e)
+      (f t st (at_rung d t.sheet t.stack.values t.spot (rw e at a) st.laid) (rw e at q))
 
-    module _ (r : Step) where
-      pub whole_head : k ≡ 0x01 → HeadReads l s d next r → WholeReads l s m m d k next r
-      unfolding sheet_move record_length body_length rows
-      whole_head e f t st q =
-          moves m t r (read_head l (drop d.at s)) st (rw e)
-          (same t r _ (f m t st (at_head_lem d t.sheet t.stack.values t.spot (fits_at 0x01 e t st) st.laid) (rw e at q)))
+  pub whole_condition : x.kind ≡ Condition → ConditionReads l d x.next r → WholeReads l s m m d x r
+  unfolding sheet_move
+  whole_condition e f t st a q =
+      moves m t (read_condition t) (rw e)
+      (same t _ (f m t st (at_condition d t.sheet t.stack.values t.spot (rw e at a) st.laid)))
 
-      pub whole_start : k ≡ 0x02 → StartReads l s d next r → WholeReads l s m m d k next r
-      unfolding sheet_move record_length body_length rows
-      whole_start e f t st q =
-          moves m t r (read_start t (drop d.at s)) st (rw e)
-          (same t r _ (f m t st (at_start d t.sheet t.stack.values t.spot (fits_at 0x02 e t st) st.laid) (rw e at q)))
+  pub whole_entry : (x.kind ≡ Head → ⊥) → (x.kind ≡ Start → ⊥) → (x.kind ≡ Rung → ⊥) → (x.kind ≡ Condition → ⊥) → (x.kind ≡ End → ⊥)
+      → EntryReads l s d x.next (byte_of x.kind) r → WholeReads l s m m d x r
+  unfolding sheet_move
+  whole_entry n1 n2 n3 n4 n5 f t st a q =
+      let b1 = other Head n1 in
+      let b2 = other Start n2 in
+      let b3 = other Rung n3 in
+      let b4 = other Condition n4 in
+      let b5 = other End n5 in
+      moves m t (read_entry l t (byte_of x.kind) (drop d.at s)) (rw (ne_eqb _ _ b1, ne_eqb _ _ b2, ne_eqb _ _ b3, ne_eqb _ _ b4, ne_eqb _ _ b5))
+      (same t _ (f m t st (at_entry d t.sheet t.stack.values (byte_of x.kind) b1 b2 b3 b4 b5 t.spot a st.laid)
+      (q ∙ ap (λ (n : ℕ). d.at + n) (entry_bytes_lem (byte_of x.kind) (drop d.at s) (entry_kind d t.sheet t.stack.values (byte_of x.kind) b1 b2 b3 b4 b5 t.spot a)))))
+    where
+      other : (k : Kind) → (x.kind ≡ k → ⊥) → byte_of x.kind ≡ byte_of k → ⊥
+      other k n e = n (byte_inj x.kind k e)
 
-      pub whole_rung : (m' : List ℕ) → k ≡ 0x20 → RungReads l s m m' d next r → WholeReads l s m m' d k next r
-      unfolding sheet_move record_length body_length rows
-      whole_rung m' e f t st q =
-          moves m' t r (read_rung t (drop d.at s)) st (rw e)
-          (f t st (at_rung d t.sheet t.stack.values t.spot (fits_at 0x20 e t st) st.laid) (rw e at q))
+pub whole_end : (l : Limits) (s m : List ℕ) (d : Kept) (x : Record) → x.kind ≡ End → WholeReads l s m m d x (Ok None)
+unfolding sheet_move After
+whole_end l s m d x e t st a q =
+    moves l s m d x (Ok None) m t (done t.sheet) (rw e)
+    (record {
+      after = record { moved = refl; ending = at_end_lem d t.sheet t.stack.values t.spot (rw e at a) st.laid };
+      rest = refl;
+    })
 
-      pub whole_condition : k ≡ 0x21 → ConditionReads l d next r → WholeReads l s m m d k next r
-      unfolding sheet_move
-      whole_condition e f t st q =
-          moves m t r (read_condition t) st (rw e)
-          (same t r _ (f m t st (at_condition d t.sheet t.stack.values t.spot (fits_at 0x21 e t st) st.laid)))
+pub ruleset whole_record_cases = (whole_head, whole_start, whole_rung, whole_condition, whole_entry, whole_end)
 
-      pub whole_entry : (k ≡ 0x01 → ⊥) → (k ≡ 0x02 → ⊥) → (k ≡ 0x20 → ⊥) → (k ≡ 0x21 → ⊥) → (k ≡ 0x2F → ⊥)
-          → EntryReads l s d next k r → WholeReads l s m m d k next r
-      unfolding sheet_move
-      whole_entry n1 n2 n3 n4 n5 f t st q =
-          moves m t r (read_entry l t k (drop d.at s)) st (rw (ne_eqb _ _ n1, ne_eqb _ _ n2, ne_eqb _ _ n3, ne_eqb _ _ n4, ne_eqb _ _ n5))
-          (same t r _ (f m t st (at_entry d t.sheet t.stack.values k n1 n2 n3 n4 n5 t.spot (fits t st) st.laid)
-          (q ∙ ap (λ (x : ℕ). d.at + x) (entry_bytes_lem k (drop d.at s) (entry_kind d t.sheet t.stack.values k n1 n2 n3 n4 n5 t.spot (fits t st))))))
+abbrev pub sheet_common : Common
+sheet_common = record { ends = SheetEnds; strange = SheetKind }
 
-    pub whole_end : k ≡ 0x2F → WholeReads l s m m d k next Done
-    unfolding sheet_move After
-    whole_end e t st q =
-        moves m t Done (done t.sheet) st (rw e)
-        (record {
-          after = record { moved = refl; ending = at_end_lem d t.sheet t.stack.values t.spot (fits_at 0x2F e t st) st.laid };
-          rest = refl;
-        })
+-- the record that is due
+module _ (l : Limits) (s m : List ℕ) (d : Kept) where
+  kinds : (q : Result Record Fault) → DueAt (spot_kinds (spot_of d.spot)) s d.at sheet_common q
+      → (t : Draft) → Stands l m d t → DueAt (spot_kinds t.spot) s d.at sheet_common q
+  kinds q e t st = rw (← st.spot_is) e
 
-pub ruleset whole_record_cases = (whole_strange, whole_head, whole_start, whole_rung, whole_condition, whole_entry, whole_end, not-true, not-false)
-
-module _ (d : Kept) (k : ℕ) (a : Bool) (ea : (x : Spot) → d.spot ≡ spot_no x → a ≡ one_of (spot_kinds x) k) where
-  pub cut_ends : a ≡ true → CutReads d k (No 2)
-  unfolding After
-  cut_ends h l m t next st = rw (← ea t.spot st.spot_is, h)
-
-  pub cut_strange : a ≡ false → CutReads d k (No 3)
-  unfolding After
-  cut_strange h l m t next st = rw (← ea t.spot st.spot_is, h)
-
-pub ruleset cut_record_cases = (cut_ends, cut_strange)
-
-module _ (l : Limits) (s m : List ℕ) (d : Kept) (f : Found) (ef : f ≡ record_at s d.at) where
-  pub one_nothing : f ≡ Nothing → Answers l s m m d (No 2)
+  pub one_refused : (f : Fault) → DueAt (spot_kinds (spot_of d.spot)) s d.at sheet_common (Err f) → Answers l s m m d (Err f)
   unfolding sheet_reader After
-  one_nothing e t st = record { after = move_nothing (sheet_reader l) t s d.at (sym e ∙ ef); rest = refl }
+  one_refused f e t st = record { after = move_refused (sheet_reader l) t s d.at sheet_common f refl refl (kinds (Err f) e t st); rest = refl }
 
-  pub one_unknown : f ≡ NoKind → Answers l s m m d (No 3)
-  unfolding sheet_reader After
-  one_unknown e t st = record { after = move_unknown (sheet_reader l) t s d.at (sym e ∙ ef); rest = refl }
-
-  pub one_cut : (k : ℕ) → f ≡ Cut k → (r : Step) → CutReads d k r → Answers l s m m d r
+  pub one_whole : (x : Record) → DueAt (spot_kinds (spot_of d.spot)) s d.at sheet_common (Ok x)
+      → (m' : List ℕ) (r : Step) → WholeReads l s m m' d x r → Answers l s m m' d r
   unfolding sheet_reader
-  one_cut k e r g t st = record {
-    after = rw (move_cut (sheet_reader l) t s d.at k (sym e ∙ ef)) (g l m t (d.at + record_length (get_or (drop d.at s) 0 0)) st);
-    rest = refl;
-  }
-
-  pub one_whole : (k next : ℕ) → f ≡ Whole k next → (m' : List ℕ) (r : Step) → WholeReads l s m m' d k next r → Answers l s m m' d r
-  unfolding sheet_reader
-  one_whole k next e m' r g t st =
-      let w : Whole k next ≡ record_at s d.at = sym e ∙ ef in
-      rw (move_whole (sheet_reader l) t s d.at k next w, ← whole_ends s d.at k next w)
-      (g t st (front_whole (front (drop d.at s)) d.at k next w).ends)
-
-pub ruleset one_record_cases = (one_nothing, one_unknown, one_cut, one_whole)
+  one_whole x e m' r g t st =
+      let a = due_allowed (spot_kinds t.spot) s d.at sheet_common x (kinds (Ok x) e t st) in
+      rw (move_due (sheet_reader l) t s d.at sheet_common x refl refl (kinds (Ok x) e t st), ← whole_ends s d.at x a.found)
+      (g t st a.kind a.found.ends)

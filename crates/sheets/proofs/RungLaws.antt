@@ -17,9 +17,13 @@ use Rattle.rules.specs.Sheet.{Rung}
 use Rattle.rules.specs.ReadFormula.{operand}
 use Rattle.rules.specs.ReadSheet.{Spot.at_rungs, Spot.at_end, Draft, SheetMove, add_rung, set_condition, driven, cleared, read_rung, read_condition}
 use Rattle.rules.specs.WriteSheet.{write_rung}
-use Rattle.sheets.specs.Draft.{spot_no, total, bytes_of, Laid, Stands, After, Stepped, RungReads, ConditionReads}
+use Rattle.sheets.specs.Draft.{total, bytes_of, Laid, Stands, After, Stepped, RungReads, ConditionReads}
 use Rattle.sheets.specs.declared.Kept.{Kept}
-use Rattle.sheets.specs.declared.Step.TheVariants.{Go, No}
+use Rattle.std.specs.Prelude.{Ok, Err, Some}
+use Rattle.rules.specs.declared.refusals.Fault.{Fault}
+use Rattle.rules.specs.declared.refusals.Fault.TheVariants.{SheetRange, SheetOperands, CoilTwice, RungCount}
+use Rattle.rules.specs.Fault.{number_of}
+use Rattle.sheets.specs.declared.Spot.TheVariants.{Rungs, End}
 use Rattle.sheets.proofs.TotalLaws.{total_one}
 
 driven_more : (rs : List Rung) (r : Rung) (c : ℕ) → driven (rs ++ (r ∷ [])) c ≡ (driven rs c || eqb c r.coil)
@@ -51,47 +55,47 @@ rungs_more (x ∷ rs) r = simp length-append (omega (arith, rungs_more rs r))
 
 -- RUNG, with its coil
 module _ (l : Limits) (s m : List ℕ) (d : Kept) (next c : ℕ) (ec : c ≡ number (drop d.at s) 1) where
-  stays : (n : ℕ) (t : Draft) (x : SheetMove) → x ≡ no n → Stepped l m m d t x next (No n)
+  stays : (n : Fault) (t : Draft) (x : SheetMove) → x ≡ no (number_of n) → Stepped l m m d t x next (Err n)
   unfolding After
   stays n t x e = record { after = e; rest = refl }
 
-  pub rung_coil : d.coils ≤ c → RungReads l s m m d next (No 4)
+  pub rung_coil : d.coils ≤ c → RungReads l s m m d next (Err SheetRange)
   unfolding read_rung
   rung_coil h t st ru q =
       let k : t.sheet.coils ≤ c = omega (arith, st.coils_are) in
-      stays 4 t (read_rung t (drop d.at s)) (rw (← ec, le-ltb _ _ k))
+      stays SheetRange t (read_rung t (drop d.at s)) (rw (← ec, le-ltb _ _ k))
 
   module _ (hc : c < d.coils) where
-    pub rung_operands : (d.depth ≡ 1 → ⊥) → RungReads l s m m d next (No 6)
+    pub rung_operands : (d.depth ≡ 1 → ⊥) → RungReads l s m m d next (Err SheetOperands)
     unfolding read_rung
     rung_operands h t st ru q =
         let k : c < t.sheet.coils = omega (arith, st.coils_are) in
-        stays 6 t (read_rung t (drop d.at s)) (rw (← ec, lt-ltb _ _ k, ← st.height, ne_eqb _ _ h))
+        stays SheetOperands t (read_rung t (drop d.at s)) (rw (← ec, lt-ltb _ _ k, ← st.height, ne_eqb _ _ h))
 
     module _ (ho : d.depth ≡ 1) where
-      pub rung_taken : (get_or m c 0 ≡ 0 → ⊥) → RungReads l s m m d next (No 9)
+      pub rung_taken : (get_or m c 0 ≡ 0 → ⊥) → RungReads l s m m d next (Err CoilTwice)
       unfolding read_rung
       rung_taken h t st ru q =
           let k : c < t.sheet.coils = omega (arith, st.coils_are) in
           let o : length t.stack.values ≡ 1 = omega (arith, st.height) in
           let j : driven t.sheet.rungs c ≡ true = st.marked c (omega (arith, st.fit.coils_in)) ∙ ap not (ne_eqb _ _ h) in
-          stays 9 t (read_rung t (drop d.at s)) (rw (← ec, lt-ltb _ _ k, o, j))
+          stays CoilTwice t (read_rung t (drop d.at s)) (rw (← ec, lt-ltb _ _ k, o, j))
 
       module _ (hm : get_or m c 0 ≡ 0) where
         undriven : (t : Draft) → Stands l m d t → driven t.sheet.rungs c ≡ false
         undriven t st = st.marked c (omega (arith, st.fit.coils_in)) ∙ ap not (eq-eqb _ _ hm)
 
-        pub rung_surplus : d.promised ≤ d.rungs → RungReads l s m m d next (No 10)
+        pub rung_surplus : d.promised ≤ d.rungs → RungReads l s m m d next (Err RungCount)
         unfolding read_rung
         rung_surplus h t st ru q =
             let k : c < t.sheet.coils = omega (arith, st.coils_are) in
             let o : length t.stack.values ≡ 1 = omega (arith, st.height) in
             let p : t.promised ≤ length t.sheet.rungs = omega (arith, st.promised_are, st.rungs_are) in
-            stays 10 t (read_rung t (drop d.at s)) (rw (← ec, lt-ltb _ _ k, o, undriven t st, le-leb _ _ p))
+            stays RungCount t (read_rung t (drop d.at s)) (rw (← ec, lt-ltb _ _ k, o, undriven t st, le-leb _ _ p))
 
         pub rung_go : d.rungs < d.promised
-            → RungReads l s m (set m c 1) d next (Go (record {
-              spot = 2;
+            → RungReads l s m (set m c 1) d next (Ok (Some (record {
+              spot = Rungs;
               at = next;
               inputs = d.inputs;
               coils = d.coils;
@@ -102,8 +106,8 @@ module _ (l : Limits) (s m : List ℕ) (d : Kept) (next c : ℕ) (ec : c ≡ num
               count = d.count;
               rungs_at = d.rungs_at;
               condition_at = next;
-            }))
-        unfolding read_rung After Laid spot_no total
+            })))
+        unfolding read_rung After Laid total
         rung_go h t st ru q =
             let k : c < t.sheet.coils = omega (arith, st.coils_are) in
             let o : length t.stack.values ≡ 1 = omega (arith, st.height) in
@@ -149,12 +153,12 @@ module _ (l : Limits) (s m : List ℕ) (d : Kept) (next c : ℕ) (ec : c ≡ num
 pub ruleset read_rung_cases = (rung_coil, rung_operands, rung_taken, rung_surplus, rung_go)
 
 module _ (l : Limits) (d : Kept) (next : ℕ) where
-  pub condition_operands : (d.depth ≡ 1 → ⊥) → ConditionReads l d next (No 6)
+  pub condition_operands : (d.depth ≡ 1 → ⊥) → ConditionReads l d next (Err SheetOperands)
   unfolding read_condition After
   condition_operands h m t st ru = rw (← st.height, ne_eqb _ _ h)
 
   module _ (ho : d.depth ≡ 1) where
-    pub condition_early : d.rungs < d.promised → ConditionReads l d next (No 10)
+    pub condition_early : d.rungs < d.promised → ConditionReads l d next (Err RungCount)
     unfolding read_condition After
     condition_early h m t st ru =
         let o : length t.stack.values ≡ 1 = omega (arith, st.height) in
@@ -162,8 +166,8 @@ module _ (l : Limits) (d : Kept) (next : ℕ) where
         rw (o, lt-ltb _ _ p)
 
     pub condition_go : d.promised ≤ d.rungs
-        → ConditionReads l d next (Go (record {
-          spot = 3;
+        → ConditionReads l d next (Ok (Some (record {
+          spot = End;
           at = next;
           inputs = d.inputs;
           coils = d.coils;
@@ -174,8 +178,8 @@ module _ (l : Limits) (d : Kept) (next : ℕ) where
           count = d.count;
           rungs_at = d.rungs_at;
           condition_at = d.condition_at;
-        }))
-    unfolding read_condition After Laid spot_no
+        })))
+    unfolding read_condition After Laid
     condition_go h m t st ru =
         let o : length t.stack.values ≡ 1 = omega (arith, st.height) in
         let p : t.promised ≤ length t.sheet.rungs = omega (arith, st.promised_are, st.rungs_are) in

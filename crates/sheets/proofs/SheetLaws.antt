@@ -16,13 +16,16 @@ use Rattle.rules.specs.Record.{record_length}
 use Rattle.rules.specs.Walk.{◌at◌, Move.no, Reading, move_at, reading}
 use Rattle.rules.specs.Sheet.{Sheet}
 use Rattle.rules.specs.ReadSheet.{Draft, blank, SheetRead.good, SheetRead.bad, sheet_reader, judge_sheet, read_sheet}
-use Rattle.sheets.specs.Draft.{spot_no, Laid, Stands, Went, Closed, After, Stepped, Answers}
+use Rattle.sheets.specs.Draft.{Step, Laid, Stands, Went, Closed, After, Stepped, Answers}
 use Rattle.sheets.specs.Answer.{Says, ReadAs, Cleared, ended_as}
 use Rattle.sheets.specs.declared.Kept.{Kept}
-use Rattle.sheets.specs.declared.Step.{Step}
-use Rattle.sheets.specs.declared.Step.TheVariants.{Go, No, Done}
-use Rattle.sheets.specs.declared.SheetAnswer.{SheetAnswer}
-use Rattle.sheets.specs.declared.SheetAnswer.TheVariants.{Good, Bad}
+use Rattle.std.specs.Prelude.{Result, Ok, Err, Some, None}
+use Rattle.rules.specs.Fault.{number_of}
+use Rattle.rules.specs.declared.refusals.Fault.{Fault}
+use Rattle.rules.specs.declared.refusals.Fault.TheVariants.{AfterSheet}
+use Rattle.rules.specs.declared.refusals.Refusal.{Refusal}
+use Rattle.sheets.specs.declared.Outline.{Outline}
+use Rattle.sheets.specs.declared.Spot.TheVariants.{Head}
 use Rattle.sheets.proofs.WalkLaws.{Walking, walks_first, walks_no, walks_done, walks_go, within_go, within_done, further}
 
 abbrev whole_sheet : Limits → List ℕ → Reading ⊥ Sheet
@@ -38,7 +41,7 @@ pub record Going (l : Limits) (s m₀ m : List ℕ) (d : Kept) : Type 0 where
 
 pub begins : (l : Limits) (s m : List ℕ) → Cleared l m
     → Going l s m m (record {
-      spot = 0;
+      spot = Head;
       at = 0;
       inputs = 0;
       coils = 0;
@@ -50,7 +53,7 @@ pub begins : (l : Limits) (s m : List ℕ) → Cleared l m
       rungs_at = 0;
       condition_at = 0;
     })
-unfolding spot_no Laid
+unfolding Laid
 begins l s m c = record {
   long = refl;
   rest = refl;
@@ -75,16 +78,16 @@ module _ (l : Limits) (s m₀ m m' : List ℕ) (d : Kept) (r : Step) (i : Going 
   stepped : Stepped l m m' d i.draft (move_at (sheet_reader l) i.draft (drop d.at s)) (d.at + record_length (get_or (drop d.at s) 0 0)) r
   stepped = a i.draft i.stands
 
-  ends : (o : SheetAnswer) → Says l s o → ReadAs l s m₀ m' o
+  ends : (o : Result Outline Refusal) → Says l s o → ReadAs l s m₀ m' o
   ends o y = record { answered = y; rest = stepped.rest ∙ i.rest; long = e ∙ i.long }
 
-  pub turn_no : (n : ℕ) → r ≡ No n → ReadAs l s m₀ m' (Bad n d.at)
+  pub turn_no : (n : Fault) → r ≡ Err n → ReadAs l s m₀ m' (Err (record { fault = n; place = d.at }))
   unfolding After Says read_sheet judge_sheet
   turn_no n q =
-      let x : move_at (sheet_reader l) i.draft (drop d.at s) ≡ no n = rw q at stepped.after in
-      ends (Bad n d.at) (rw (walks_no (sheet_reader l) s i.draft d.at (whole_sheet l s) i.walking n x, judge_sheet))
+      let x : move_at (sheet_reader l) i.draft (drop d.at s) ≡ no (number_of n) = rw q at stepped.after in
+      ends (Err (record { fault = n; place = d.at })) (rw (walks_no (sheet_reader l) s i.draft d.at (whole_sheet l s) i.walking (number_of n) x, judge_sheet))
 
-  module _ (u : Kept) (q : r ≡ Go u) where
+  module _ (u : Kept) (q : r ≡ Ok (Some u)) where
     went : Went l m' u (move_at (sheet_reader l) i.draft (drop d.at s)) (d.at + record_length (get_or (drop d.at s) 0 0))
     unfolding After
     went = rw q at stepped.after
@@ -103,7 +106,7 @@ module _ (l : Limits) (s m₀ m m' : List ℕ) (d : Kept) (r : Step) (i : Going 
         further (sheet_reader l) s i.draft d.at u.at
         (within_go (sheet_reader l) s i.draft d.at went.to went.moved) went.there
 
-  module _ (q : r ≡ Done) where
+  module _ (q : r ≡ Ok None) where
     closed_there : Closed d i.draft (move_at (sheet_reader l) i.draft (drop d.at s))
     unfolding After
     closed_there = rw q at stepped.after
@@ -115,12 +118,12 @@ module _ (l : Limits) (s m₀ m m' : List ℕ) (d : Kept) (r : Step) (i : Going 
     unfolding read_sheet judge_sheet
     judged = rw (walks_done (sheet_reader l) s i.draft d.at (whole_sheet l s) i.walking i.draft.sheet closed_there.moved, judge_sheet)
 
-    pub turn_done : (o : SheetAnswer) → o ≡ ended_as s d → ReadAs l s m₀ m' o
+    pub turn_done : (o : Result Outline Refusal) → o ≡ ended_as s d → ReadAs l s m₀ m' o
     unfolding Says
     turn_done o f = ends o (rw f (go (ltb (d.at + 1) (length s)) refl))
       where
         go : (b : Bool) → ltb (d.at + 1) (length s) ≡ b
-            → Says l s (pick b (Bad 11 (d.at + 1)) (Good (record {
+            → Says l s (pick b (Err (record { fault = AfterSheet; place = d.at + 1 })) (Ok (record {
               inputs = d.inputs;
               coils = d.coils;
               rungs = d.rungs;
@@ -148,7 +151,7 @@ module _ (l : Limits) (s m m₁ : List ℕ) (h : l.coils ≤ length m) (e : m₁
   pub sheet_cleared : Cleared l m₁
   sheet_cleared = record { room = omega (arith, long₁); zeros = λ c k. rw e (fresh_zero l.coils m c k) }
 
-  pub sheet_read : (m₂ : List ℕ) (r : SheetAnswer) → ReadAs l s m₁ m₂ r → ReadAs l s m m₂ r
+  pub sheet_read : (m₂ : List ℕ) (r : Result Outline Refusal) → ReadAs l s m₁ m₂ r → ReadAs l s m m₂ r
   sheet_read m₂ r x = record {
     answered = x.answered;
     rest = x.rest ∙ ap (drop l.coils) e ∙ fresh_rest l.coils m;
@@ -157,11 +160,11 @@ module _ (l : Limits) (s m m₁ : List ℕ) (h : l.coils ≤ length m) (e : m₁
 
 pub ruleset read_sheet_cases = (sheet_cleared, sheet_read)
 
-pub ended_more : (s : List ℕ) (d : Kept) → d.at + 1 < length s → Bad 11 (d.at + 1) ≡ ended_as s d
+pub ended_more : (s : List ℕ) (d : Kept) → d.at + 1 < length s → Err (record { fault = AfterSheet; place = d.at + 1 }) ≡ ended_as s d
 ended_more s d h = simp (lt-ltb _ _ h)
 
 pub ended_whole : (s : List ℕ) (d : Kept) → length s ≤ d.at + 1
-    → Good (record {
+    → Ok (record {
       inputs = d.inputs;
       coils = d.coils;
       rungs = d.rungs;

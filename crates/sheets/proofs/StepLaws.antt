@@ -11,23 +11,23 @@ use borrow.Author.Tests.{leb-true, lt-ltb, le-ltb}
 use Rattle.base.specs.Lists.{each}
 use Rattle.rules.specs.declared.Limits.{Limits}
 use Rattle.rules.specs.declared.Sheet.{Sheet as Head}
-use Rattle.rules.specs.declared.Headed.{Headed}
-use Rattle.rules.specs.declared.Headed.TheVariants.{Fits, OutOfRange}
+use Rattle.std.specs.Prelude.{Result, Ok, Err, Option, Some, None}
+use Rattle.rules.specs.declared.refusals.Fault.{Fault}
+use Rattle.rules.specs.declared.refusals.Fault.TheVariants.{SheetRange, StartOrder}
+use Rattle.rules.specs.Fault.{number_of}
 use Rattle.rules.specs.Head.{head_fits, headed}
 use Rattle.rules.specs.Record.{number}
 use Rattle.rules.specs.Walk.{Move.no}
 use Rattle.rules.specs.ReadFormula.{sheet_faults, empty, Pushed.fine, Pushed.fault, in_range, entry, push, formula_record}
 use Rattle.rules.specs.ReadSheet.{Spot.at_starts, Spot.at_rungs, Draft, headed_sheet, add_start, sheet_bounds, read_head, read_start, read_entry}
 use Rattle.rules.specs.WriteSheet.{write_rung}
-use Rattle.sheets.specs.Pile.{scope_of, faults_of, Piled, Grown, Adds, Puts}
-use Rattle.sheets.specs.Draft.{spot_no, total, bytes_of, Laid, Stands, Went, After, HeadReads, StartReads, EntryReads}
+use Rattle.sheets.specs.Pile.{scope_of, fault_in, Piled, Grown, Adds, Puts}
+use Rattle.sheets.specs.Draft.{total, bytes_of, Laid, Stands, Went, After, HeadReads, StartReads, EntryReads}
 use Rattle.sheets.specs.declared.Scope.{Scope}
-use Rattle.sheets.specs.declared.Numbers.{Numbers}
 use Rattle.sheets.specs.declared.Pile.{Pile}
-use Rattle.sheets.specs.declared.Added.{Added}
-use Rattle.sheets.specs.declared.Added.TheVariants.{Fine, Fault}
+use Rattle.sheets.specs.declared.FormulaFault.{FormulaFault}
+use Rattle.sheets.specs.declared.Spot.TheVariants.{Starts, Rungs}
 use Rattle.sheets.specs.declared.Kept.{Kept}
-use Rattle.sheets.specs.declared.Step.TheVariants.{Go, No}
 use Rattle.sheets.proofs.TotalLaws.{Built, record_built, total_built, bytes_count, entry_bytes}
 
 both_true : (a b : Bool) → (a && b) ≡ true → (a ≡ true) × (b ≡ true)
@@ -45,8 +45,8 @@ head_coils l i c n h =
 -- HEAD, with its three numbers and what the range test made of them
 module _ (l : Limits) (s : List ℕ) (d : Kept) (next i c n : ℕ)
     (ei : i ≡ number (drop d.at s) 1) (ec : c ≡ number (drop d.at s) 3) (en : n ≡ number (drop d.at s) 5)
-    (r : Headed) (er : r ≡ headed l i c n) where
-  pub head_no : r ≡ OutOfRange → HeadReads l s d next (No 4)
+    (r : Option Head) (er : r ≡ headed l i c n) where
+  pub head_no : r ≡ None → HeadReads l s d next (Err SheetRange)
   unfolding read_head After
   head_no e m t st hd q = go (head_fits l i c n) refl
     where
@@ -54,9 +54,9 @@ module _ (l : Limits) (s : List ℕ) (d : Kept) (next i c n : ℕ)
       go true g = let z : ◌≡◌ {A = ℕ} 0 1 = cc in absurd (omega arith)
       go false g = rw (← ei, ← ec, ← en, g)
 
-  pub head_go : (h : Head) → r ≡ Fits h
-      → HeadReads l s d next (Go (record {
-        spot = 1;
+  pub head_go : (h : Head) → r ≡ Some h
+      → HeadReads l s d next (Ok (Some (record {
+        spot = Starts;
         at = next;
         inputs = h.inputs;
         coils = h.coils;
@@ -67,13 +67,13 @@ module _ (l : Limits) (s : List ℕ) (d : Kept) (next i c n : ℕ)
         count = 0;
         rungs_at = next;
         condition_at = next;
-      }))
-  unfolding read_head After Laid spot_no total
+      })))
+  unfolding read_head After Laid total
   head_go h e m t st hd q = go (head_fits l i c n) refl
     where
       go : (x : Bool) → head_fits l i c n ≡ x
           → Went l m (record {
-            spot = 1;
+            spot = Starts;
             at = next;
             inputs = h.inputs;
             coils = h.coils;
@@ -119,18 +119,18 @@ pub ruleset read_head_cases = (head_no, head_go)
 -- START, with its coil and its value
 module _ (l : Limits) (s : List ℕ) (d : Kept) (next c v : ℕ)
     (ec : c ≡ number (drop d.at s) 1) (ev : v ≡ get_or (drop d.at s) 3 0) where
-  pub start_coil : d.coils ≤ c → StartReads l s d next (No 4)
+  pub start_coil : d.coils ≤ c → StartReads l s d next (Err SheetRange)
   unfolding read_start After
   start_coil h m t st sg q =
       let k : t.sheet.coils ≤ c = omega (arith, st.coils_are) in
       rw (← ec, le-ltb _ _ k)
 
-  pub start_value : 2 ≤ v → StartReads l s d next (No 4)
+  pub start_value : 2 ≤ v → StartReads l s d next (Err SheetRange)
   unfolding read_start After
   start_value h m t st sg q = rw (← ev, le-ltb _ _ h, and-false)
 
   module _ (hc : c < d.coils) (hv : v < 2) where
-    pub start_low : c < d.least → StartReads l s d next (No 5)
+    pub start_low : c < d.least → StartReads l s d next (Err StartOrder)
     unfolding read_start After
     start_low h m t st sg q =
         let k : c < t.sheet.coils = omega (arith, st.coils_are) in
@@ -138,8 +138,8 @@ module _ (l : Limits) (s : List ℕ) (d : Kept) (next c v : ℕ)
         rw (← ec, ← ev, lt-ltb _ _ k, lt-ltb _ _ hv, lt-ltb _ _ j)
 
     pub start_go : d.least ≤ c
-        → StartReads l s d next (Go (record {
-          spot = 1;
+        → StartReads l s d next (Ok (Some (record {
+          spot = Starts;
           at = next;
           inputs = d.inputs;
           coils = d.coils;
@@ -150,8 +150,8 @@ module _ (l : Limits) (s : List ℕ) (d : Kept) (next c v : ℕ)
           count = d.count;
           rungs_at = next;
           condition_at = next;
-        }))
-    unfolding read_start After Laid spot_no total
+        })))
+    unfolding read_start After Laid total
     start_go h m t st sg q =
         let k : c < t.sheet.coils = omega (arith, st.coils_are) in
         let j : t.least ≤ c = omega (arith, st.least_is) in
@@ -195,19 +195,16 @@ module _ (l : Limits) (s : List ℕ) (d : Kept) (next c v : ℕ)
 pub ruleset read_start_cases = (start_coil, start_value, start_low, start_go)
 
 -- a formula record; its numbers, its bounds and its stack are those of the draft
-module _ (l : Limits) (s : List ℕ) (d : Kept) (next k : ℕ) (r : Added) where
-  abbrev numbers : Numbers
-  numbers = record { range = 4; operands = 6; depth = 7; records = 8 }
-
+module _ (l : Limits) (s : List ℕ) (d : Kept) (next k : ℕ) (r : Result Pile FormulaFault) where
   abbrev scope : Scope
   scope = record { inputs = d.inputs; coils = d.coils; depth = l.depth; records = l.records }
 
   abbrev pile : Pile
   pile = record { depth = d.depth; count = d.count }
 
-  module _ (f : Puts (record { range = 4; operands = 6; depth = 7; records = 8 }) (record { inputs = d.inputs; coils = d.coils; depth = l.depth; records = l.records }) (record { depth = d.depth; count = d.count }) (drop d.at s) k r) where
+  module _ (f : Puts (record { inputs = d.inputs; coils = d.coils; depth = l.depth; records = l.records }) (record { depth = d.depth; count = d.count }) (drop d.at s) k r) where
     same : (m : List ℕ) (t : Draft) → Stands l m d t
-        → formula_record (faults_of numbers) (scope_of scope) t.stack k (drop d.at s)
+        → formula_record sheet_faults (scope_of scope) t.stack k (drop d.at s)
         ≡ formula_record sheet_faults (sheet_bounds l t.sheet) t.stack k (drop d.at s)
     unfolding formula_record in_range push
     same m t st = rw (st.inputs_are, st.coils_are)
@@ -215,16 +212,16 @@ module _ (l : Limits) (s : List ℕ) (d : Kept) (next k : ℕ) (r : Added) where
     piles : (m : List ℕ) (t : Draft) → Stands l m d t → Piled pile t.stack
     piles m t st = record { height = st.height; counted = st.counted }
 
-    pub entry_no : (n : ℕ) → r ≡ Fault n → EntryReads l s d next k (No n)
+    pub entry_no : (x : FormulaFault) (n : Fault) → r ≡ Err x → number_of n ≡ fault_in sheet_faults x → EntryReads l s d next k (Err n)
     unfolding read_entry After Adds
-    entry_no n e m t st ru q =
-        let g : formula_record (faults_of numbers) (scope_of scope) t.stack k (drop d.at s) ≡ fault n = rw e at (f t.stack (piles m t st)) in
-        let h : formula_record sheet_faults (sheet_bounds l t.sheet) t.stack k (drop d.at s) ≡ fault n = sym (same m t st) ∙ g in
-        rw (h, read_entry)
+    entry_no x n e i m t st ru q =
+        let g : formula_record sheet_faults (scope_of scope) t.stack k (drop d.at s) ≡ fault (fault_in sheet_faults x) = rw e at (f sheet_faults t.stack (piles m t st)) in
+        let h : formula_record sheet_faults (sheet_bounds l t.sheet) t.stack k (drop d.at s) ≡ fault (fault_in sheet_faults x) = sym (same m t st) ∙ g in
+        rw (h, read_entry, i)
 
-    pub entry_go : (p : Pile) → r ≡ Fine p
-        → EntryReads l s d next k (Go (record {
-          spot = 2;
+    pub entry_go : (p : Pile) → r ≡ Ok p
+        → EntryReads l s d next k (Ok (Some (record {
+          spot = Rungs;
           at = next;
           inputs = d.inputs;
           coils = d.coils;
@@ -235,10 +232,10 @@ module _ (l : Limits) (s : List ℕ) (d : Kept) (next k : ℕ) (r : Added) where
           count = p.count;
           rungs_at = d.rungs_at;
           condition_at = d.condition_at;
-        }))
-    unfolding read_entry After Adds Laid spot_no
+        })))
+    unfolding read_entry After Adds Laid
     entry_go p e m t st ru q =
-        let g : Grown p (formula_record (faults_of numbers) (scope_of scope) t.stack k (drop d.at s)) = rw e at (f t.stack (piles m t st)) in
+        let g : Grown p (formula_record sheet_faults (scope_of scope) t.stack k (drop d.at s)) = rw e at (f sheet_faults t.stack (piles m t st)) in
         let h : formula_record sheet_faults (sheet_bounds l t.sheet) t.stack k (drop d.at s) ≡ fine g.to = sym (same m t st) ∙ g.pushed in
         let b : Built t.stack g.to (entry k (drop d.at s)) = record_built sheet_faults (sheet_bounds l t.sheet) t.stack g.to k (drop d.at s) h in
         let y : total bytes_of g.to.values ≡ total bytes_of t.stack.values + entry_bytes (entry k (drop d.at s)) =

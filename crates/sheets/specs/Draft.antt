@@ -1,6 +1,5 @@
 -- How memory and numbers stand for a draft, and what each record does to them.
-use Rattle.std.specs.Prelude.{ℕ, ◌+◌, ◌*◌, ◌≤◌, ◌<◌, ◌≡◌, not, List, [], ◌∷◌, length, get_or, drop, eqb}
-use Rattle.base.specs.Pick.{pick}
+use Rattle.std.specs.Prelude.{ℕ, ◌+◌, ◌*◌, ◌≤◌, ◌<◌, ◌≡◌, Result, Ok, Err, Option, Some, None, true, not, List, [], ◌∷◌, length, get_or, drop, eqb}
 use Rattle.base.specs.Lists.{each}
 use Rattle.rules.specs.declared.Limits.{Limits}
 use Rattle.rules.specs.Record.{record_length, one_of}
@@ -10,16 +9,24 @@ use Rattle.rules.specs.Sheet.{Sheet}
 use Rattle.rules.specs.ReadFormula.{entry}
 use Rattle.rules.specs.ReadSheet.{Spot, Spot.at_head, Spot.at_starts, Spot.at_rungs, Spot.at_end, Draft, SheetMove, spot_kinds, driven, read_head, read_start, read_entry, read_rung, read_condition, sheet_move, sheet_reader}
 use Rattle.rules.specs.WriteSheet.{write_entry, write_formula, write_rung}
+use Rattle.rules.specs.Fault.{number_of}
+use Rattle.rules.specs.declared.refusals.Fault.{Fault}
+use Rattle.records.specs.Kinds.{byte_of}
+use Rattle.records.specs.declared.Record.{Record}
 use Rattle.sheets.specs.declared.Kept.{Kept}
-use Rattle.sheets.specs.declared.Step.{Step}
-use Rattle.sheets.specs.declared.Step.TheVariants.{Go, No, Done}
+use Rattle.sheets.specs.declared.Spot.{Spot as SpotKept}
+use Rattle.sheets.specs.declared.Spot.TheVariants.{Head, Starts, Rungs, End}
 
--- the code's number of a spot
-unfoldable pub spot_no : Spot → ℕ
-spot_no at_head = 0
-spot_no at_starts = 1
-spot_no at_rungs = 2
-spot_no at_end = 3
+-- the code's name of a spot
+abbrev pub spot_of : SpotKept → Spot
+spot_of Head = at_head
+spot_of Starts = at_starts
+spot_of Rungs = at_rungs
+spot_of End = at_end
+
+-- a step of the code: it goes on, or has read END, or refuses
+abbrev pub Step : Type 0
+Step = Result (Option Kept) Fault
 
 -- what f counts, over a list of formulas
 unfoldable pub total : (Formula → ℕ) → List Formula → ℕ
@@ -64,7 +71,7 @@ pub record Fit (l : Limits) (m : List ℕ) (d : Kept) : Type 0 where
 
 -- memory and numbers stand for a draft: a coil's place is marked exactly where a closed rung drives it
 pub record Stands (l : Limits) (m : List ℕ) (d : Kept) (t : Draft) : Type 0 where
-  pub spot_is : d.spot ≡ spot_no t.spot
+  pub spot_is : spot_of d.spot ≡ t.spot
   pub inputs_are : d.inputs ≡ t.sheet.inputs
   pub coils_are : d.coils ≡ t.sheet.coils
   pub promised_are : d.promised ≡ t.promised
@@ -90,9 +97,9 @@ pub record Closed (d : Kept) (t : Draft) (x : SheetMove) : Type 0 where
 
 -- the code's answer to a record that ends before a place is that of the rules
 unfoldable pub After : Limits → List ℕ → Kept → Draft → SheetMove → ℕ → Step → Type 0
-After l m d t x next (Go e) = Went l m e x next
-After l m d t x next (No n) = x ≡ no n
-After l m d t x next Done = Closed d t x
+After l m d t x next (Ok (Some e)) = Went l m e x next
+After l m d t x next (Ok None) = Closed d t x
+After l m d t x next (Err f) = x ≡ no (number_of f)
 
 -- and the places of memory past those of the coils are as they were
 pub record Stepped (l : Limits) (m m' : List ℕ) (d : Kept) (t : Draft) (x : SheetMove) (next : ℕ) (r : Step) : Type 0 where
@@ -126,16 +133,11 @@ ConditionReads l d next r =
     (m : List ℕ) (t : Draft) → Stands l m d t → Running d t.sheet t.stack.values
     → After l m d t (read_condition t) next r
 
--- a whole record of kind k, and one that is cut
-abbrev pub WholeReads : Limits → List ℕ → List ℕ → List ℕ → Kept → ℕ → ℕ → Step → Type 0
-WholeReads l s m m' d k next r =
-    (t : Draft) → Stands l m d t → next ≡ d.at + record_length k
-    → Stepped l m m' d t (pick (one_of (spot_kinds t.spot) k) (sheet_move l t k (drop d.at s)) (no 3)) next r
-
-abbrev pub CutReads : Kept → ℕ → Step → Type 0
-CutReads d k r =
-    (l : Limits) (m : List ℕ) (t : Draft) (next : ℕ) → Stands l m d t
-    → After l m d t (pick (one_of (spot_kinds t.spot) k) (no 2) (no 3)) next r
+-- a whole record of a kind that is allowed
+abbrev pub WholeReads : Limits → List ℕ → List ℕ → List ℕ → Kept → Record → Step → Type 0
+WholeReads l s m m' d x r =
+    (t : Draft) → Stands l m d t → one_of (spot_kinds t.spot) (byte_of x.kind) ≡ true → x.next ≡ d.at + record_length (byte_of x.kind)
+    → Stepped l m m' d t (sheet_move l t (byte_of x.kind) (drop d.at s)) x.next r
 
 -- whatever stands at the draft's place
 abbrev pub Answers : Limits → List ℕ → List ℕ → List ℕ → Kept → Step → Type 0

@@ -1,117 +1,96 @@
 // One record of a sheet: what each kind does to what the code keeps of a draft.
 ghost use Rattle.std.specs.Prelude.{◌≡◌};
 ghost use Rattle.rules.specs.Record.{one_of};
-ghost use Rattle.rules.specs.ReadSheet.{Spot, Spot.at_starts, Spot.at_rungs, spot_kinds};
-ghost use Rattle.sheets.specs.Draft.{spot_no, Fit, HeadReads, StartReads, EntryReads, RungReads, ConditionReads, WholeReads, CutReads, Answers};
+ghost use Rattle.rules.specs.ReadSheet.{Spot.at_rungs, spot_kinds};
+ghost use Rattle.records.specs.Kinds.{byte_of};
+ghost use Rattle.sheets.specs.Draft.{spot_of, Fit, HeadReads, StartReads, EntryReads, RungReads, ConditionReads, WholeReads, Answers};
 
-use super::formula::formula_record;
-use super::{Added, Kept, Numbers, Pile, Scope, Step};
-use records::Found;
-use rules::{Headed, Limits, Sheet};
+use super::formula::{formula_record, sheet_fault};
+use super::{Kept, Pile, Scope, Spot};
+use reader::Reader;
+use records::{Common, Kind, Record};
+use rules::{Fault, Limits, Sheet};
 
 // Between the starts and CONDITION: RUNG, CONDITION and the formula records.
-pub(crate) fn among_rungs(kind: u8) -> bool
-    ensures { result ≡ one_of (spot_kinds at_rungs) kind }
+#[tactic(auto, unfolding(rules::specs::ReadSheet::spot_kinds))]
+pub(crate) fn among_rungs(kind: Kind) -> bool
+    ensures { result ≡ one_of (spot_kinds at_rungs) (byte_of kind) }
 {
     match kind {
-        0x20 => true,
-        0x21 => true,
-        0x10 => true,
-        0x11 => true,
-        0x12 => true,
-        0x13 => true,
-        0x14 => true,
-        0x15 => true,
+        Kind::Rung | Kind::Condition => true,
+        Kind::Input | Kind::Coil | Kind::Constant => true,
+        Kind::Not | Kind::And | Kind::Or => true,
         _ => false,
     }
 }
 
-// Among the starts: START too.
-pub(crate) fn among_starts(kind: u8) -> bool
-    ensures { result ≡ one_of (spot_kinds at_starts) kind }
-{
-    if kind == 0x02 {
-        return true;
-    }
-    among_rungs(kind)
-}
-
-// Is a kind allowed at this spot?
-pub(crate) fn allowed(spot: u8, kind: u8) -> bool
-    ensures { (x : Spot) → spot ≡ spot_no x → result ≡ one_of (spot_kinds x) kind }
+// Is a kind allowed at this spot? Among the starts, START too.
+#[tactic(auto, unfolding(rules::specs::ReadSheet::spot_kinds))]
+pub(crate) fn allowed(spot: Spot, kind: Kind) -> bool
+    ensures { result ≡ one_of (spot_kinds (spot_of spot)) (byte_of kind) }
 {
     match spot {
-        0 => kind == 0x01,
-        1 => among_starts(kind),
-        2 => among_rungs(kind),
-        _ => kind == 0x2F,
+        Spot::Head => kind == Kind::Head,
+        Spot::Starts => kind == Kind::Start || among_rungs(kind),
+        Spot::Rungs => among_rungs(kind),
+        Spot::End => kind == Kind::End,
     }
 }
 
 // HEAD: 4.
-pub(crate) fn read_head(l: Limits, s: &[u8], d: Kept, next: usize) -> Step
+#[tactic(auto, using(crate::proofs::StepLaws::read_head_cases))]
+pub(crate) fn read_head(l: Limits, s: &[u8], d: Kept, next: usize) -> Result<Option<Kept>, Fault>
     ensures { HeadReads l s.now d next result }
 {
-    let at = d.at;
-    let inputs = records::number_at(s, at, 1) as usize;
-    let coils = records::number_at(s, at, 3) as usize;
-    let rungs = records::number_at(s, at, 5) as usize;
-    match Sheet::new(l, inputs, coils, rungs) {
-        Headed::Fits(h) => Step::Go(Kept {
-            spot: 1,
-            at: next,
-            inputs: h.inputs,
-            coils: h.coils,
-            promised: h.rungs,
-            least: 0,
-            rungs: 0,
-            depth: 0,
-            count: 0,
-            rungs_at: next,
-            condition_at: next,
-        }),
-        Headed::OutOfRange => Step::No(4),
-    }
+    let inputs = usize::from(records::number_at(s, d.at, 1));
+    let coils = usize::from(records::number_at(s, d.at, 3));
+    let rungs = usize::from(records::number_at(s, d.at, 5));
+    let Some(h) = Sheet::new(l, inputs, coils, rungs) else {
+        return Err(Fault::SheetRange);
+    };
+    Ok(Some(Kept {
+        spot: Spot::Starts,
+        at: next,
+        inputs: h.inputs,
+        coils: h.coils,
+        promised: h.rungs,
+        least: 0,
+        rungs: 0,
+        depth: 0,
+        count: 0,
+        rungs_at: next,
+        condition_at: next,
+    }))
 }
 
 // START: 4, 5.
-pub(crate) fn read_start(l: Limits, s: &[u8], d: Kept, next: usize) -> Step
+#[tactic(auto, using(crate::proofs::StepLaws::read_start_cases))]
+pub(crate) fn read_start(l: Limits, s: &[u8], d: Kept, next: usize) -> Result<Option<Kept>, Fault>
     ensures { StartReads l s.now d next result }
 {
-    let at = d.at;
-    let coil = records::number_at(s, at, 1) as usize;
-    let value = records::byte_at(s, at, 3);
-    let coils = d.coils;
-    if coils <= coil {
-        return Step::No(4);
+    let coil = usize::from(records::number_at(s, d.at, 1));
+    let value = records::byte_at(s, d.at, 3);
+    if d.coils <= coil || 2 <= value {
+        return Err(Fault::SheetRange);
     }
-    if 2 <= value {
-        return Step::No(4);
+    if coil < d.least {
+        return Err(Fault::StartOrder);
     }
-    let least = d.least;
-    if coil < least {
-        return Step::No(5);
-    }
-    let mut e = d;
-    e.spot = 1;
-    e.at = next;
-    e.least = coil + 1;
-    e.rungs_at = next;
-    e.condition_at = next;
-    Step::Go(e)
+    Ok(Some(Kept {
+        spot: Spot::Starts,
+        at: next,
+        least: coil + 1,
+        rungs_at: next,
+        condition_at: next,
+        ..d
+    }))
 }
 
 // A formula record: 4, 6, 7, 8.
-pub(crate) fn read_entry(l: Limits, s: &[u8], d: Kept, next: usize, kind: u8) -> Step
-    ensures { EntryReads l s.now d next kind result }
+#[tactic(auto, using(crate::proofs::StepLaws::read_entry_cases))]
+pub(crate) fn read_entry(l: Limits, s: &[u8], d: Kept, whole: Record) -> Result<Option<Kept>, Fault>
+    ensures { EntryReads l s.now d whole.next (byte_of whole.kind) result }
 {
-    let at = d.at;
-    let n = Numbers {
-        range: 4,
-        operands: 6,
-        depth: 7,
-        records: 8,
-    };
     let b = Scope {
         inputs: d.inputs,
         coils: d.coils,
@@ -122,119 +101,106 @@ pub(crate) fn read_entry(l: Limits, s: &[u8], d: Kept, next: usize, kind: u8) ->
         depth: d.depth,
         count: d.count,
     };
-    match formula_record(n, b, p, s, at, kind) {
-        Added::Fine(q) => {
-            let mut e = d;
-            e.spot = 2;
-            e.at = next;
-            e.depth = q.depth;
-            e.count = q.count;
-            Step::Go(e)
-        }
-        Added::Fault(k) => Step::No(k),
+    match formula_record(b, p, s, d.at, whole.kind) {
+        Ok(q) => Ok(Some(Kept {
+            spot: Spot::Rungs,
+            at: whole.next,
+            depth: q.depth,
+            count: q.count,
+            ..d
+        })),
+        Err(fault) => Err(sheet_fault(fault)),
     }
 }
 
 // RUNG: 4, 6, 9, 10.
-pub(crate) fn read_rung(l: Limits, s: &[u8], marks: &mut [u16], d: Kept, next: usize) -> Step
+#[tactic(auto, using(crate::proofs::RungLaws::read_rung_cases))]
+pub(crate) fn read_rung(
+    l: Limits,
+    s: &[u8],
+    marks: &mut [u16],
+    d: Kept,
+    next: usize,
+) -> Result<Option<Kept>, Fault>
     requires { Fit l marks.old d }
     ensures { RungReads l s.now marks.old marks.new d next result }
 {
-    let at = d.at;
-    let coil = records::number_at(s, at, 1) as usize;
-    let coils = d.coils;
-    if coils <= coil {
-        return Step::No(4);
+    let coil = usize::from(records::number_at(s, d.at, 1));
+    if d.coils <= coil {
+        return Err(Fault::SheetRange);
     }
-    let height = d.depth;
-    if height != 1 {
-        return Step::No(6);
+    if d.depth != 1 {
+        return Err(Fault::SheetOperands);
     }
     if marks[coil] != 0 {
-        return Step::No(9);
+        return Err(Fault::CoilTwice);
     }
-    let rungs = d.rungs;
-    let promised = d.promised;
-    if promised <= rungs {
-        return Step::No(10);
+    if d.promised <= d.rungs {
+        return Err(Fault::RungCount);
     }
     marks[coil] = 1;
-    let mut e = d;
-    e.spot = 2;
-    e.at = next;
-    e.rungs = rungs + 1;
-    e.depth = 0; // the rung has taken its value
-    e.condition_at = next; // and another formula begins
-    Step::Go(e)
+    Ok(Some(Kept {
+        spot: Spot::Rungs,
+        at: next,
+        rungs: d.rungs + 1,
+        depth: 0, // the rung has taken its value
+        condition_at: next, // and another formula begins
+        ..d
+    }))
 }
 
 // CONDITION: 6, 10.
-pub(crate) fn read_condition(l: Limits, d: Kept, next: usize) -> Step
+#[tactic(auto, using(crate::proofs::RungLaws::read_condition_cases))]
+pub(crate) fn read_condition(l: Limits, d: Kept, next: usize) -> Result<Option<Kept>, Fault>
     ensures { ConditionReads l d next result }
 {
-    let height = d.depth;
-    if height != 1 {
-        return Step::No(6);
+    if d.depth != 1 {
+        return Err(Fault::SheetOperands);
     }
-    let rungs = d.rungs;
-    let promised = d.promised;
-    if rungs < promised {
-        return Step::No(10);
+    if d.rungs < d.promised {
+        return Err(Fault::RungCount);
     }
-    let mut e = d;
-    e.spot = 3;
-    e.at = next;
-    e.depth = 0;
-    Step::Go(e)
+    Ok(Some(Kept {
+        spot: Spot::End,
+        at: next,
+        depth: 0,
+        ..d
+    }))
 }
 
-// A whole record of this kind, which ends before `next`.
+// A whole record of a kind that is allowed at its spot.
+#[tactic(auto, using(crate::proofs::RecordLaws::whole_record_cases))]
 pub(crate) fn whole_record(
     l: Limits,
     s: &[u8],
     marks: &mut [u16],
     d: Kept,
-    kind: u8,
-    next: usize,
-) -> Step
+    whole: Record,
+) -> Result<Option<Kept>, Fault>
     requires { Fit l marks.old d }
-    ensures { WholeReads l s.now marks.old marks.new d kind next result }
+    ensures { WholeReads l s.now marks.old marks.new d whole result }
 {
-    let spot = d.spot;
-    if !allowed(spot, kind) {
-        return Step::No(3);
+    match whole.kind {
+        Kind::Head => read_head(l, s, d, whole.next),
+        Kind::Start => read_start(l, s, d, whole.next),
+        Kind::Rung => read_rung(l, s, marks, d, whole.next),
+        Kind::Condition => read_condition(l, d, whole.next),
+        Kind::End => Ok(None),
+        _ => read_entry(l, s, d, whole),
     }
-    match kind {
-        0x01 => read_head(l, s, d, next),
-        0x02 => read_start(l, s, d, next),
-        0x20 => read_rung(l, s, marks, d, next),
-        0x21 => read_condition(l, d, next),
-        0x2F => Step::Done,
-        _ => read_entry(l, s, d, next, kind),
-    }
-}
-
-// A record whose body is cut.
-pub(crate) fn cut_record(d: Kept, kind: u8) -> Step
-    ensures { CutReads d kind result }
-{
-    let spot = d.spot;
-    if allowed(spot, kind) {
-        return Step::No(2);
-    }
-    Step::No(3)
 }
 
 // The record at the draft's place.
-pub(crate) fn one_record(l: Limits, s: &[u8], marks: &mut [u16], d: Kept) -> Step
+pub(crate) fn one_record(
+    l: Limits,
+    s: &[u8],
+    marks: &mut [u16],
+    d: Kept,
+) -> Result<Option<Kept>, Fault>
     requires { Fit l marks.old d }
     ensures { Answers l s.now marks.old marks.new d result }
 {
-    let at = d.at;
-    match reader::found_at(s, at) {
-        Found::Nothing => Step::No(2),
-        Found::NoKind => Step::No(3),
-        Found::Cut { kind } => cut_record(d, kind),
-        Found::Whole { kind, next } => whole_record(l, s, marks, d, kind, next),
-    }
+    let reader = Reader { src: s, at: d.at };
+    let whole = reader.due(Common::SHEET, |kind| allowed(d.spot, kind))?;
+    whole_record(l, s, marks, d, whole)
 }

@@ -1,78 +1,96 @@
 // A formula record: the range of what it names, the values it takes, and how large the formula may grow.
 ghost use Rattle.std.specs.Prelude.{◌≡◌, List, ℕ, drop};
-ghost use Rattle.rules.specs.ReadFormula.{in_range, arity, entry};
-ghost use Rattle.sheets.specs.Pile.{scope_of, Pushes, Puts};
+ghost use Rattle.rules.specs.Fault.{number_of};
+ghost use Rattle.rules.specs.ReadFormula.{sheet_faults, certificate_faults, in_range, arity, entry};
+ghost use Rattle.records.specs.Kinds.{byte_of};
+ghost use Rattle.sheets.specs.Pile.{scope_of, fault_in, Pushes, Puts};
 
-use super::{Added, Numbers, Pile, Scope};
+use super::{FormulaFault, Pile, Scope};
+use records::Kind;
+use rules::Fault;
+
+// The refusal of a formula record of a sheet, and that of an invariant.
+pub(crate) fn sheet_fault(fault: FormulaFault) -> Fault
+    ensures { number_of result ≡ fault_in sheet_faults fault }
+{
+    match fault {
+        FormulaFault::Range => Fault::SheetRange,
+        FormulaFault::Operands => Fault::SheetOperands,
+        FormulaFault::Depth => Fault::SheetDepth,
+        FormulaFault::Records => Fault::SheetRecords,
+    }
+}
+
+pub(crate) fn invariant_fault(fault: FormulaFault) -> Fault
+    ensures { number_of result ≡ fault_in certificate_faults fault }
+{
+    match fault {
+        FormulaFault::Range => Fault::CertificateRange,
+        FormulaFault::Operands => Fault::InvariantOperands,
+        FormulaFault::Depth => Fault::InvariantDepth,
+        FormulaFault::Records => Fault::InvariantRecords,
+    }
+}
 
 // Is what a formula record names in its range?
-pub(crate) fn in_range(b: Scope, s: &[u8], at: usize, kind: u8) -> bool
-    ensures { result ≡ in_range (scope_of b) kind (drop at s.now) }
+#[tactic(auto, unfolding(rules::specs::ReadFormula::in_range))]
+pub(crate) fn in_range(b: Scope, s: &[u8], at: usize, kind: Kind) -> bool
+    ensures { result ≡ in_range (scope_of b) (byte_of kind) (drop at s.now) }
 {
     match kind {
-        0x10 => {
-            let n = records::number_at(s, at, 1) as usize;
-            let most = b.inputs;
-            n < most
-        }
-        0x11 => {
-            let n = records::number_at(s, at, 1) as usize;
-            let most = b.coils;
-            n < most
-        }
-        0x12 => records::byte_at(s, at, 1) < 2,
+        Kind::Input => usize::from(records::number_at(s, at, 1)) < b.inputs,
+        Kind::Coil => usize::from(records::number_at(s, at, 1)) < b.coils,
+        Kind::Constant => records::byte_at(s, at, 1) < 2,
         _ => true,
     }
 }
 
 // How many values a formula record takes.
-pub(crate) fn taken(kind: u8) -> usize
-    ensures { (bs : List ℕ) → arity (entry kind bs) ≡ result }
+#[tactic(auto, unfolding(rules::specs::ReadFormula::arity, rules::specs::ReadFormula::entry))]
+pub(crate) fn taken(kind: Kind) -> usize
+    ensures { (bs : List ℕ) → arity (entry (byte_of kind) bs) ≡ result }
 {
     match kind {
-        0x10 => 0,
-        0x11 => 0,
-        0x12 => 0,
-        0x13 => 1,
+        Kind::Input | Kind::Coil | Kind::Constant => 0,
+        Kind::Not => 1,
         _ => 2,
     }
 }
 
 // A record that takes `taken` values and puts one.
-pub(crate) fn push(n: Numbers, b: Scope, p: Pile, taken: usize) -> Added
-    ensures { Pushes n b p taken result }
+#[tactic(auto, using(crate::proofs::PileLaws::push_cases))]
+pub(crate) fn push(b: Scope, p: Pile, taken: usize) -> Result<Pile, FormulaFault>
+    ensures { Pushes b p taken result }
 {
-    let height = p.depth;
-    if height < taken {
-        let k = n.operands;
-        return Added::Fault(k);
+    if p.depth < taken {
+        return Err(FormulaFault::Operands);
     }
-    let keep = height - taken;
-    let most = b.depth;
-    if most <= keep {
-        let k = n.depth;
-        return Added::Fault(k);
+    let keep = p.depth - taken;
+    if b.depth <= keep {
+        return Err(FormulaFault::Depth);
     }
-    let count = p.count;
-    let records = b.records;
-    if records <= count {
-        let k = n.records;
-        return Added::Fault(k);
+    if b.records <= p.count {
+        return Err(FormulaFault::Records);
     }
-    Added::Fine(Pile {
+    Ok(Pile {
         depth: keep + 1,
-        count: count + 1,
+        count: p.count + 1,
     })
 }
 
 // The formula record of this kind at an offset.
-pub(crate) fn formula_record(n: Numbers, b: Scope, p: Pile, s: &[u8], at: usize, kind: u8) -> Added
-    ensures { Puts n b p (drop at s.now) kind result }
+#[tactic(auto, using(crate::proofs::PileLaws::formula_record_cases))]
+pub(crate) fn formula_record(
+    b: Scope,
+    p: Pile,
+    s: &[u8],
+    at: usize,
+    kind: Kind,
+) -> Result<Pile, FormulaFault>
+    ensures { Puts b p (drop at s.now) (byte_of kind) result }
 {
     if in_range(b, s, at, kind) {
-        let t = taken(kind);
-        return push(n, b, p, t);
+        return push(b, p, taken(kind));
     }
-    let k = n.range;
-    Added::Fault(k)
+    Err(FormulaFault::Range)
 }

@@ -11,11 +11,12 @@ ghost use Rattle.rules.specs.Certificate.{opening};
 ghost use Rattle.sheets.specs.Answer.{ReadAs, Cleared, ended_as};
 ghost use Rattle.sheets.specs.Certificate.{opening_kinds, opened_as, InvariantAs};
 
-use records::Found;
-use rules::Limits;
+use reader::Reader;
+use records::{Common, Kind};
+use rules::{Fault, Limits, Refusal};
 
 // What a formula may name, and how large it may grow.
-#[derive(Clone, Copy)]
+#[derive(Clone, Copy, Debug, PartialEq, Eq)]
 pub struct Scope {
     pub inputs: usize,
     pub coils: usize,
@@ -23,34 +24,36 @@ pub struct Scope {
     pub records: usize,
 }
 
-// The refusals of a formula record, in the order in which they are tried.
-#[derive(Clone, Copy)]
-pub struct Numbers {
-    pub range: u8,
-    pub operands: u8,
-    pub depth: u8,
-    pub records: u8,
-}
-
 // What the code keeps of a stack of formulas: its height, and how many formula records were read.
-#[derive(Clone, Copy)]
+#[derive(Clone, Copy, Debug, PartialEq, Eq)]
 pub struct Pile {
     pub depth: usize,
     pub count: usize,
 }
 
-// What a formula record does to it.
-#[derive(Clone, Copy)]
-pub enum Added {
-    Fine(Pile),
-    Fault(u8),
+// Why a formula record is refused, in the order in which they are tried.
+#[derive(Clone, Copy, Debug, PartialEq, Eq)]
+pub enum FormulaFault {
+    Range,
+    Operands,
+    Depth,
+    Records,
 }
 
-// What the code keeps of a draft: where the reading stands (0 the head, 1 the starts, 2 the rungs, 3 the end), the offset of
-// the next record, heights and counts, and the offsets past the last START and past the last RUNG.
-#[derive(Clone, Copy)]
+// Where the reading of a sheet stands.
+#[derive(Clone, Copy, Debug, PartialEq, Eq)]
+pub enum Spot {
+    Head,
+    Starts,
+    Rungs,
+    End,
+}
+
+// What the code keeps of a draft: where the reading stands, the offset of the next record, heights and counts, and the offsets
+// past the last START and past the last RUNG.
+#[derive(Clone, Copy, Debug, PartialEq, Eq)]
 pub struct Kept {
-    pub spot: u8,
+    pub spot: Spot,
     pub at: usize,
     pub inputs: usize,
     pub coils: usize,
@@ -63,16 +66,8 @@ pub struct Kept {
     pub condition_at: usize,
 }
 
-// What a record of a sheet does.
-#[derive(Clone, Copy)]
-pub enum Step {
-    Go(Kept),
-    No(u8),
-    Done,
-}
-
 // What is kept of a good sheet: its numbers, and the offsets where its rungs and where its condition begin.
-#[derive(Clone, Copy)]
+#[derive(Clone, Copy, Debug, PartialEq, Eq)]
 pub struct Outline {
     pub inputs: usize,
     pub coils: usize,
@@ -81,26 +76,17 @@ pub struct Outline {
     pub condition_at: usize,
 }
 
-// A sheet, or why not.
-#[derive(Clone, Copy)]
-pub enum SheetAnswer {
-    Good(Outline),
-    Bad { no: u8, place: usize },
-}
-
 // END is the last byte, else 11.
-fn ended(s: &[u8], d: Kept) -> SheetAnswer
+#[tactic(auto, using(crate::proofs::SheetLaws::ended_cases))]
+fn ended(s: &[u8], d: Kept) -> Result<Outline, Refusal>
     requires { d.at < length s.now }
     ensures { result ≡ ended_as s.now d }
 {
     let past = d.at + 1;
     if past < s.len() {
-        return SheetAnswer::Bad {
-            no: 11,
-            place: past,
-        };
+        return Err(Fault::AfterSheet.at(past));
     }
-    SheetAnswer::Good(Outline {
+    Ok(Outline {
         inputs: d.inputs,
         coils: d.coils,
         rungs: d.rungs,
@@ -110,12 +96,13 @@ fn ended(s: &[u8], d: Kept) -> SheetAnswer
 }
 
 // The records of a sheet, one after the other, where no coil is marked yet.
-fn read_records(l: Limits, s: &[u8], marks: &mut [u16]) -> SheetAnswer
+#[tactic(auto, using(crate::proofs::SheetLaws::read_records_cases))]
+fn read_records(l: Limits, s: &[u8], marks: &mut [u16]) -> Result<Outline, Refusal>
     requires { Cleared l marks.old }
     ensures { ReadAs l s.now marks.old marks.new result }
 {
     let mut d = Kept {
-        spot: 0,
+        spot: Spot::Head,
         at: 0,
         inputs: 0,
         coils: 0,
@@ -129,87 +116,74 @@ fn read_records(l: Limits, s: &[u8], marks: &mut [u16]) -> SheetAnswer
     };
     loop {
         match draft::one_record(l, s, marks, d) {
-            Step::Go(e) => {
-                d = e;
-            }
-            Step::No(n) => {
-                let at = d.at;
-                return SheetAnswer::Bad { no: n, place: at };
-            }
-            Step::Done => {
-                return ended(s, d);
-            }
+            Ok(Some(e)) => d = e,
+            Ok(None) => return ended(s, d),
+            Err(fault) => return Err(fault.at(d.at)),
         }
     }
 }
 
 // Any bytes: the sheet that they are, or the first fault. The places for the coils' marks are cleared first.
-pub fn read_sheet(l: Limits, s: &[u8], marks: &mut [u16]) -> SheetAnswer
+#[tactic(auto, using(crate::proofs::SheetLaws::read_sheet_cases))]
+pub fn read_sheet(l: Limits, s: &[u8], marks: &mut [u16]) -> Result<Outline, Refusal>
     requires { l.coils ≤ length marks.old }
     ensures { ReadAs l s.now marks.old marks.new result }
 {
-    let n = l.coils;
-    base::clear(marks, n);
+    base::clear(marks, l.coils);
     read_records(l, s, marks)
 }
 
-// What a record of an invariant does.
-#[derive(Clone, Copy)]
-pub enum Turn {
-    Go(Pile, usize),
-    No(u8),
-    Done,
+// Where INVARIANT stands, and how many formula records are before it.
+#[derive(Clone, Copy, Debug, PartialEq, Eq)]
+pub struct Invariant {
+    pub end: usize,
+    pub size: usize,
 }
 
-// Where INVARIANT stands and how many formula records are before it, or why not.
-#[derive(Clone, Copy)]
-pub enum InvariantAnswer {
-    Good { end: usize, size: usize },
-    Bad { no: u8, place: usize },
+// What the code keeps of an invariant: the stack, and the offset of the next record.
+#[derive(Clone, Copy, Debug, PartialEq, Eq)]
+pub struct Part {
+    pub pile: Pile,
+    pub at: usize,
 }
 
 // The invariant of a certificate whose first record has been read, for a sheet with so many coils.
-pub fn read_invariant(l: Limits, coils: usize, c: &[u8]) -> InvariantAnswer
+#[tactic(auto, using(crate::proofs::InvariantLaws::read_invariant_cases))]
+pub fn read_invariant(l: Limits, coils: usize, c: &[u8]) -> Result<Invariant, Refusal>
     ensures { InvariantAs l coils c.now result }
 {
-    let mut p = Pile { depth: 0, count: 0 };
-    let mut at: usize = 1;
+    let mut p = Part {
+        pile: Pile { depth: 0, count: 0 },
+        at: 1,
+    };
     loop {
-        match certificate::part_record(l, coils, c, p, at) {
-            Turn::Go(q, next) => {
-                p = q;
-                at = next;
+        match certificate::part_record(l, coils, c, p) {
+            Ok(Some(q)) => p = q,
+            Ok(None) => {
+                return Ok(Invariant {
+                    end: p.at,
+                    size: p.pile.count,
+                });
             }
-            Turn::No(n) => {
-                return InvariantAnswer::Bad { no: n, place: at };
-            }
-            Turn::Done => {
-                let size = p.count;
-                return InvariantAnswer::Good {
-                    end: at,
-                    size: size,
-                };
-            }
+            Err(fault) => return Err(fault.at(p.at)),
         }
     }
 }
 
-// The first record of a certificate.
-#[derive(Clone, Copy)]
-pub enum Opened {
+// What a certificate opens with.
+#[derive(Clone, Copy, Debug, PartialEq, Eq)]
+pub enum Opening {
     Safe,
     Trace,
-    Bad { no: u8, place: usize },
 }
 
 // SAFE, or TRACE where a trace may stand too.
-pub fn open(c: &[u8], traces: bool) -> Opened
+pub fn open(c: &[u8], traces: bool) -> Result<Opening, Refusal>
     ensures { opened_as result ≡ reading (opening (opening_kinds traces)) c.now 0 tt }
 {
-    match reader::first(c) {
-        Found::Nothing => Opened::Bad { no: 12, place: 0 },
-        Found::NoKind => Opened::Bad { no: 13, place: 0 },
-        Found::Cut { kind } => certificate::open_cut(kind, traces),
-        Found::Whole { kind, next: _ } => certificate::open_whole(kind, traces),
+    let whole = Reader::new(c).due(Common::CERTIFICATE, |kind| certificate::opens(kind, traces))?;
+    match whole.kind {
+        Kind::Safe => Ok(Opening::Safe),
+        _ => Ok(Opening::Trace),
     }
 }

@@ -4,7 +4,7 @@ use Rattle.sheets.proofs.InvariantLaws.{PartingAll}
 use Rattle.sheets.proofs.read_invariant.Given as goal
 
 abbrev pub invariant-loop-q : goal.invariant-loop-q
-invariant-loop-q l = PartingAll l.l l.coils l.c l.p l.at
+invariant-loop-q l = PartingAll l.l l.coils l.c l.p
 
 abbrev pub decreases-loop-q : goal.decreases-loop-q
-decreases-loop-q l = length l.c - l.at
+decreases-loop-q l = length l.c - l.p.at

@@ -1,39 +1,27 @@
-use Rattle.std.proofs.Common.{rules}
-use Rattle.sheets.proofs.SheetLaws.{read_records_cases}
+use Rattle.sheets.proofs.SheetLaws.{turn_no, turn_go, turn_less, turn_inside, turn_done}
 use Rattle.sheets.proofs.read_records.Goals as goal
 
-pub loop-e-init : goal.loop-e-init
-loop-e-init c = search (rules, read_records_cases)
-
-pub one_record-requires : goal.one_record-requires
-one_record-requires c = search (rules, read_records_cases)
-
-pub enum_known-e : goal.enum_known-e
-enum_known-e c = search (rules, read_records_cases)
-
 pub loop-e-smaller : goal.loop-e-smaller
-loop-e-smaller c = search (rules, read_records_cases)
+loop-e-smaller c =
+    turn_less _ _ _ _ _ c.loop-e.d c.one_record.result c.loop-e.invariant c.one_record.ensures c.one_record.auto.marks c.in-Ok-Some.e
+    (rw c.in-Ok-Some.field-0-is at c.in-Ok-Some.is)
 
 pub loop-e-preserved : goal.loop-e-preserved
-loop-e-preserved c = search (rules, read_records_cases)
-
-pub enum_known-n : goal.enum_known-n
-enum_known-n c = search (rules, read_records_cases)
-
-pub shape_of-marks-in-No : goal.shape_of-marks-in-No
-shape_of-marks-in-No c = search (rules, read_records_cases)
-
-pub returns-in-No : goal.returns-in-No
-returns-in-No c = search (rules, read_records_cases)
-
-pub enum_told-1 : goal.enum_told-1
-enum_told-1 c = search (rules, read_records_cases)
+loop-e-preserved c =
+    turn_go _ _ _ _ _ c.loop-e.d c.one_record.result c.loop-e.invariant c.one_record.ensures c.one_record.auto.marks c.in-Ok-Some.e
+    (rw c.in-Ok-Some.field-0-is at c.in-Ok-Some.is)
 
 pub ended-requires : goal.ended-requires
-ended-requires c = search (rules, read_records_cases)
+ended-requires c =
+    turn_inside _ _ _ _ _ c.loop-e.d c.one_record.result c.loop-e.invariant c.one_record.ensures c.one_record.auto.marks
+    (rw c.in-Ok-None.field-0-is at c.in-Ok-None.is)
 
-pub shape_of-marks-in-Done : goal.shape_of-marks-in-Done
-shape_of-marks-in-Done c = search (rules, read_records_cases)
+pub returns-in-Ok-None : goal.returns-in-Ok-None
+returns-in-Ok-None c =
+    turn_done _ _ _ _ _ c.loop-e.d c.one_record.result c.loop-e.invariant c.one_record.ensures c.one_record.auto.marks
+    (rw c.in-Ok-None.field-0-is at c.in-Ok-None.is) _ c.ended.ensures
 
-pub returns-in-Done : goal.returns-in-Done
-returns-in-Done c = search (rules, read_records_cases)
+pub returns-in-Err : goal.returns-in-Err
+returns-in-Err c =
+    rw c.at.ensures
+    (turn_no _ _ _ _ _ c.loop-e.d c.one_record.result c.loop-e.invariant c.one_record.ensures c.one_record.auto.marks c.in-Err.fault c.in-Err.is)
