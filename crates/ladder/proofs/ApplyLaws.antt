@@ -5,7 +5,7 @@ use mathlib.Core.Path.{◌≡◌, ap, ◌∙◌}
 use mathlib.Core.Bool.{Bool, true, false, not, ◌&&◌, ◌||◌}
 use mathlib.Core.List.{List, ◌∷◌}
 use native.Mathlib.Omega.{arith}
-use lib.ListN.{length, get_or, drop}
+use lib.ListN.{length}
 use Rattle.rules.specs.Formula.{reads}
 use Rattle.rules.specs.ReadFormula.{arity}
 use Rattle.formulas.specs.Part.{entry_for}

@@ -13,7 +13,7 @@ use Rattle.rules.specs.ReadFormula.{arity}
 use Rattle.rules.specs.WriteSheet.{write_entry, write_formula}
 use Rattle.formulas.specs.Part.{part_for, entry_for, part_of, length_of}
 use Rattle.formulas.specs.declared.Part.{Part}
-use Rattle.formulas.specs.declared.Part.TheVariants.{Input, Coil, Constant, Not, And, Or, Closing}
+use Rattle.formulas.specs.declared.Part.TheVariants.{Closing}
 use Rattle.formulas.proofs.ReadBack.{read_back, length_back, entry_back, not_closing, closing_back}
 use Rattle.ladder.specs.Values.{on, values, act, acts, Taken}
 use Rattle.ladder.specs.Evaluate.{Fitting, Applicable, Applied, bounds_for, FormulaAt, EvaluatedAs, Evaluates}

@@ -6,3 +6,5 @@ pub mod RungLaws
 pub mod ScanLaws
 pub mod StartLaws
 pub mod SheetBytes
+pub mod ScannedLaws
+pub mod CallerLaws

@@ -1,7 +1,7 @@
 // The scan: a formula's value from its bytes, the rungs in order, and the condition after them.
 #![tactic(auto)]
 
-//SHEETS mod within;
+mod within;
 
 ghost use Rattle.std.specs.Prelude.{◌≡◌, ◌≤◌, ◌<◌, length};
 ghost use Rattle.rules.specs.Head.{base_limits};
@@ -13,7 +13,7 @@ ghost use Rattle.ladder.specs.Order.{Order};
 ghost use Rattle.ladder.specs.Evaluate.{Applicable, Applied, FormulaAt, Evaluates, bounds_for};
 
 use formulas::Part;
-//SHEETS use rules::{Fault, Refusal, Sheet};
+use rules::{Fault, Refusal, Sheet};
 
 // Values on lent places, the last one put at the top.
 #[derive(Drop)]
@@ -168,22 +168,22 @@ pub fn initialise(s: &[u8], from: usize, starts: usize, coils: &mut [u16])
 
 // One scan of any sheet bytes, over lent places; a place that is not zero is on. The answer is whether the condition holds
 // after it; a refused scan changes no place.
-//SHEETS pub fn scan(sheet: &[u8], inputs: &[u16], coils: &mut [u16]) -> Result<bool, Refusal>
-//SHEETS     ensures { ScansSheet base_limits sheet.now inputs.now coils.old coils.new result }
-//SHEETS {
-//SHEETS     let l = Sheet::limits();
-//SHEETS     if inputs.len() < l.inputs || coils.len() < l.coils {
-//SHEETS         return Err(Fault::ShortWorkspace.at(0));
-//SHEETS     }
-//SHEETS     let mut marks = [0u16; Sheet::COILS];
-//SHEETS     let mut stack = [0u16; Sheet::DEPTH];
-//SHEETS     within::scan_within(l, sheet, inputs, coils, &mut marks, &mut stack)
-//SHEETS }
+pub fn scan(sheet: &[u8], inputs: &[u16], coils: &mut [u16]) -> Result<bool, Refusal>
+    ensures { ScansSheet base_limits sheet.now inputs.now coils.old coils.new result }
+{
+    let l = Sheet::limits();
+    if inputs.len() < l.inputs || coils.len() < l.coils {
+        return Err(Fault::ShortWorkspace.at(0));
+    }
+    let mut marks = [0u16; Sheet::COILS];
+    let mut stack = [0u16; Sheet::DEPTH];
+    within::scan_within(l, sheet, inputs, coils, &mut marks, &mut stack)
+}
 
-//SHEETS // Nothing to run: a scan that is not refused is a scan as the meaning says.
-//SHEETS pub fn scan_means()
-//SHEETS     ensures { ScanMeans }
-//SHEETS {}
+// Nothing to run: a scan that is not refused is a scan as the meaning says.
+pub fn scan_means()
+    ensures { ScanMeans }
+{}
 
 // Nothing to run: a ladder whose second rung reads what the first has just set.
 pub fn rungs_in_order()

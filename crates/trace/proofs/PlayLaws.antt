@@ -8,13 +8,11 @@ use native.Mathlib.Omega.{arith}
 use lib.ListN.{length, get_or, set, replicate, length-append}
 use lib.Dec.{eqb}
 use borrow.Author.Tests.{lt-ltb, le-ltb, le-leb, lt-leb, ne_eqb, eqb-true}
-use Rattle.std.specs.Prelude.{Option, None, Some, Result, Ok, Err}
-use Rattle.std.specs.Option.{option_or}
+use Rattle.std.specs.Prelude.{Option, None, Some, Ok, Err}
 use Rattle.base.specs.Pick.{pick}
 use Rattle.rules.specs.Record.{one_of}
 use Rattle.rules.specs.Sheet.{Sheet, with, scan, holds_after}
 use Rattle.rules.specs.Walk.{Move.go, Move.mark, Move.no, Move.done}
-use Rattle.rules.specs.Fault.{number_of}
 use Rattle.rules.specs.Certificate.{Scanning, named, read_input_on}
 use Rattle.rules.specs.Verdict.{Replay, replayed, answer_of}
 use Rattle.ladder.specs.Values.{on}

@@ -2,14 +2,13 @@
 -- Assumes nothing.
 use Prim.Native.Nat.{ℕ, zero, suc, ◌+◌, ◌-◌, ◌≤◌, ◌<◌}
 use mathlib.Core.Path.{◌≡◌, refl, sym, ap, ◌∙◌, subst}
-use mathlib.Core.Bool.{Bool, true, false}
-use mathlib.Core.List.{List, [], ◌∷◌}
+use mathlib.Core.Bool.{false}
+use mathlib.Core.List.{List, []}
 use native.Mathlib.Omega.{arith}
 use lib.ListN.{length, get_or, drop, length-drop}
 use lib.Seq.{drop-drop}
 use lib.Dec.{eqb}
-use Rattle.std.specs.Prelude.{Option, None, Some, Result, Ok, Err}
-use Rattle.base.specs.Pick.{pick}
+use Rattle.std.specs.Prelude.{None, Some, Result, Ok, Err}
 use Rattle.rules.specs.Kind
 use Rattle.rules.specs.declared.Limits.{Limits}
 use Rattle.rules.specs.declared.Answer.{Answer}
@@ -17,11 +16,11 @@ use Rattle.rules.specs.declared.refusals.Fault.{Fault}
 use Rattle.rules.specs.declared.refusals.Fault.TheVariants.{CertificateEnds, CertificateKind}
 use Rattle.rules.specs.declared.refusals.Refusal.{Refusal as Told}
 use Rattle.rules.specs.Fault.{number_of}
-use Rattle.rules.specs.Record.{one_of, record_length}
-use Rattle.rules.specs.Walk.{◌at◌, Move.go, Move.mark, Move.no, Move.done, move_at, past, walk}
+use Rattle.rules.specs.Record.{record_length}
+use Rattle.rules.specs.Walk.{Move.go, Move.mark, Move.no, Move.done, move_at, past, walk}
 use Rattle.rules.specs.Sheet.{Sheet}
-use Rattle.rules.specs.Certificate.{Scanning, read_input_on, scans_move, scans_reader, read_scans}
-use Rattle.rules.specs.Verdict.{Verdict.refused, Replay, replayed, unplayed, judge_scans, answer_of}
+use Rattle.rules.specs.Certificate.{Scanning, scans_move, scans_reader, read_scans}
+use Rattle.rules.specs.Verdict.{Replay, replayed, unplayed, judge_scans, answer_of}
 use Rattle.records.specs.Kinds.{byte_of}
 use Rattle.records.specs.Found.{number_at, DueAt}
 use Rattle.records.specs.declared.kind.Kind.{Kind as Named}
@@ -30,7 +29,7 @@ use Rattle.records.specs.declared.Common.{Common}
 use Rattle.records.specs.declared.Record.{Record}
 use Rattle.records.proofs.FrontLaws.{passes, whole_ends}
 use Rattle.records.proofs.DueLaws.{due_allowed, move_refused, move_due}
-use Rattle.trace.specs.Playing.{Playing, Follows, Follows.goes, Follows.scans, Follows.stops, Follows.over, ScansMove, Step, NamesInput, Drawn, DrawnIn, ScanAt, ScanIn, AsLong, scan_move, Scans, end_move, EndsScans, play_kinds, Inside, Stepped, Steps, Finishes, ReplayAt, Replayed, Replays}
+use Rattle.trace.specs.Playing.{Playing, Follows, Follows.goes, Follows.scans, Follows.stops, Follows.over, ScansMove, Step, NamesInput, DrawnIn, ScanIn, AsLong, Scans, EndsScans, play_kinds, Inside, Stepped, Steps, Finishes, ReplayAt, Replays}
 use Rattle.trace.specs.declared.Play.{Play}
 use Rattle.trace.specs.declared.Ladder.{Ladder}
 use Rattle.trace.specs.declared.Places.{Places}
@@ -65,16 +64,16 @@ kinds_are : (l : Limits) (t : Sheet) (inputs coils : List ℕ) (p : Play) (st : 
 unfolding scans_reader
 kinds_are l t inputs coils p st g y = let z : eqb p.least 0 ≡ eqb (length st.on) 0 = ap (λ (n : ℕ). eqb n 0) y.least ∙ sym y.none in rw z
 
-module _ (l : Limits) (a : Ladder) (c : List ℕ) (m m' : Places) (p : Play) where
-  -- no record that is due
-  pub step_refused : (f : Fault) → DueAt (play_kinds p) c p.at common (Err f) → Steps l a c m m p (Err f)
-  unfolding scans_reader
-  step_refused f d h st g i y =
-      let k = kinds_are l h.sheet m.inputs.now m.coils.now p st g y in
-      let e : move_at (scans_reader l h.sheet) st (drop p.at c) ≡ no (number_of f) =
-      move_refused (scans_reader l h.sheet) st c p.at common f refl refl (rw k at d) in
-      record { inside = tt; follows = rw e stops }
+-- no record that is due
+pub step_refused : (l : Limits) (a : Ladder) (c : List ℕ) (m : Places) (p : Play) (f : Fault) → DueAt (play_kinds p) c p.at common (Err f) → Steps l a c m m p (Err f)
+unfolding scans_reader
+step_refused l a c m p f d h st g i y =
+    let k = kinds_are l h.sheet m.inputs.now m.coils.now p st g y in
+    let e : move_at (scans_reader l h.sheet) st (drop p.at c) ≡ no (number_of f) =
+    move_refused (scans_reader l h.sheet) st c p.at common f refl refl (rw k at d) in
+    record { inside = tt; follows = rw e stops }
 
+module _ (l : Limits) (a : Ladder) (c : List ℕ) (m m' : Places) (p : Play) where
   module _ (x : Record) (d : DueAt (play_kinds p) c p.at common (Ok x)) where
     next_is : x.next ≡ p.at + record_length (get_or (drop p.at c) 0 0)
     next_is = whole_ends c p.at x (due_allowed (play_kinds p) c p.at common x d).found

@@ -6,7 +6,7 @@ use Rattle.trace.proofs.step.Goals as goal
 pub returns-in_err-record-clause-steps : goal.returns-in_err-record-clause-steps
 returns-in_err-record-clause-steps c =
     let d = c.in_err-record.ensures.by (play_kinds c.args.p) (λ k b h. search rules) in
-    search (rules, step_refused)
+    search (rules, step_refused c.args.l c.args.t c.args.c.now c.args.places.now c.args.p c.in_err-record.field-0.0 d)
 
 pub returns-in-InputOn-clause-steps : goal.returns-in-InputOn-clause-steps
 returns-in-InputOn-clause-steps c =
