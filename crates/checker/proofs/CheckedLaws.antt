@@ -18,7 +18,7 @@ use Rattle.rules.specs.declared.refusals.Fault.TheVariants.{ShortWorkspace}
 use Rattle.rules.specs.declared.refusals.Refusal.{Refusal}
 use Rattle.rules.specs.Fault.{refusal_of}
 use Rattle.rules.specs.Head.{base_limits}
-use Rattle.rules.specs.Walk.{◌at◌, Reading.stopped, Reading.closed, move_at, walk, reading}
+use Rattle.rules.specs.Walk.{Reading.stopped, Reading.closed, move_at, walk, reading}
 use Rattle.rules.specs.Sheet.{Sheet}
 use Rattle.rules.specs.ReadSheet.{SheetRead.bad, read_sheet}
 use Rattle.rules.specs.WriteSheet.{write_formula, WithinSheet, Bytes}
@@ -28,7 +28,6 @@ use Rattle.reading.proofs.SheetKept.{sheet_written}
 use Rattle.reading.proofs.InvariantLaws.{InvariantWritten, invariant_written}
 use Rattle.sheets.specs.declared.Outline.{Outline}
 use Rattle.sheets.specs.declared.Invariant.{Invariant}
-use Rattle.sheets.specs.declared.Opening.{Opening}
 use Rattle.sheets.specs.declared.Opening.TheVariants.{Safe, Trace}
 use Rattle.sheets.specs.Answer.{Outlined, Says, ReadAs}
 use Rattle.sheets.specs.Certificate.{opening_kinds, opened_as, InvariantThere, InvariantSays, InvariantAs}
