@@ -1,7 +1,7 @@
 -- Values on the stack, and what putting one there and taking one leave.
 -- Assumes nothing.
 use Prim.Native.Nat.{ℕ, zero, suc, ◌+◌, ◌≤◌, ◌<◌}
-use mathlib.Core.Path.{◌≡◌, refl, ap}
+use mathlib.Core.Path.{◌≡◌, refl}
 use mathlib.Core.Bool.{Bool, true, false, not}
 use mathlib.Core.List.{List, ◌∷◌}
 use native.Mathlib.Numerals.{add-one}
@@ -41,8 +41,3 @@ values_one w x = rw add-one
 
 pub values_two : (w : List ℕ) (x : ℕ) → values w (x + 2) ≡ on w (x + 1) ∷ on w x ∷ values w x
 values_two w x = let e : x + 2 ≡ (x + 1) + 1 = omega arith in rw (e, values_one w (x + 1), values_one w x)
-
-pub values_length : (w : List ℕ) (d : ℕ) → length (values w d) ≡ d
-unfolding values
-values_length w zero = refl
-values_length w (suc d) = ap suc (values_length w d)
