@@ -6,6 +6,7 @@ ghost use Rattle.clauses.specs.Formed.{FormulaAt, FormulaWritten};
 use super::gates::{Gate, define, values};
 use super::{Variables, Wrote};
 use formulas::Part;
+use rules::Sheet;
 
 // The stack's height and the number of the next clause after a formula record.
 #[derive(Clone, Copy, Debug, PartialEq, Eq)]
@@ -55,22 +56,17 @@ fn enter(
 
 // The clauses of the formula at a place, up to the record that closes it.
 #[tactic(auto, using(crate::proofs::FormulaLaws::formula_cases))]
-pub(crate) fn formula_clauses(
-    s: &[u8],
-    vars: Variables,
-    from: Wrote,
-    stack: &mut [u16],
-    out: &mut [u16],
-) -> Wrote
-    requires { FormulaAt s.now from.at vars.coils.now vars.inputs from.g stack.old from.n }
-    ensures { FormulaWritten s.now from.at vars.entry.coils.now vars.entry.inputs from.g stack.old out.old from.n out.new result }
+pub(crate) fn formula_clauses(s: &[u8], vars: Variables, from: Wrote, out: &mut [u16]) -> Wrote
+    requires { FormulaAt s.now from.at vars.coils.now vars.inputs from.g from.n }
+    ensures { FormulaWritten s.now from.at vars.entry.coils.now vars.entry.inputs from.g out.old from.n out.new result }
 {
     let mut w = from;
+    let mut stack = [0u16; Sheet::DEPTH];
     let mut depth: usize = 0;
     // each record's place follows from the length of the one before
     loop {
         let p = formulas::part_at(s, w.at);
-        let Some(step) = enter(p, vars, w, stack, depth, out) else {
+        let Some(step) = enter(p, vars, w, &mut stack, depth, out) else {
             return w;
         };
         depth = step.depth;

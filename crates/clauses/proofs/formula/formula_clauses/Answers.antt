@@ -10,7 +10,7 @@ enter-requires c = search (rules, formula_cases)
 
 pub returns-in_default : goal.returns-in_default
 returns-in_default c =
-    ends _ _ _ _ _ _ _ _ _ _ _ _ _ _ c.loop-step.invariant _ c.part_at-p.ensures _ _ _ c.enter.ensures c.in_default.is
+    ends _ _ _ _ _ _ _ _ _ _ _ _ _ c.loop-step.invariant _ c.part_at-p.ensures _ _ _ c.enter.ensures c.in_default.is
 
 pub overflow_add-w : goal.overflow_add-w
 overflow_add-w c = search (rules, formula_cases)
