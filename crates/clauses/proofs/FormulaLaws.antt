@@ -18,9 +18,8 @@ use Rattle.formulas.specs.declared.Part.{Part}
 use Rattle.formulas.specs.declared.Part.TheVariants.{Closing}
 use Rattle.formulas.proofs.ReadBack.{closing_back, length_back}
 use Rattle.std.specs.Prelude.{Option, Some, None}
-use Rattle.clauses.specs.declared.formula.Step.{Step}
 use Rattle.clauses.specs.Emits.{emits}
-use Rattle.clauses.specs.Stack.{stk, step, vars_of, part_clauses, takes, Put, Reaches, Enterable, Entered}
+use Rattle.clauses.specs.Stack.{stk, vars_of, part_clauses, takes, Put, Reaches, Enterable, Entered}
 use Rattle.clauses.specs.Formed.{Mapped, Formed, FormulaAt, Written, FormulaWritten}
 use Rattle.clauses.proofs.EmitLaws.{emits_append}
 use Rattle.clauses.proofs.FlatLaws.{flat, flat_whole, takes_for, postfix_size, few_clauses, EntryNames, Sound, sound_whole}
@@ -114,7 +113,7 @@ module _ (s : List ℕ) (at : ℕ) (map : List ℕ) (base g : ℕ) (out₀ : Lis
       within = omega (arith, w.low, m.deep, w.long)
 
       go : (xs : List Entry) → w.es ≡ xs → Enterable p map base next stack depth count
-      go [] h = record { ready = λ z. absurd (z (is_closing h)); reaches = rw (is_closing h) tt; within = within; mapped = m.small }
+      go [] h = record { ready = λ z. absurd (z (is_closing h)); reaches = rw (is_closing h) tt; within = within; tall = w.long; mapped = m.small }
       go (e ∷ es) h =
           let x : p ≡ part_for e = is_first e es h in
           let y : Sound w.bounds depth (e ∷ es) = rw h at w.sound in
@@ -130,21 +129,22 @@ module _ (s : List ℕ) (at : ℕ) (map : List ℕ) (base g : ℕ) (out₀ : Lis
               small = w.small;
             });
             within = within;
+            tall = w.long;
             reaches = rw x (reach w.bounds e map base y.0.named m.inputs_fit m.coils_fit);
             mapped = m.small;
           }
 
   -- what the code has done with the record found
-  module _ (stack' out' : List ℕ) (r : Option Step) (t : Entered p map base next stack depth out count stack' out' r) where
+  module _ (stack' : List ℕ) (depth' : ℕ) (out' : List ℕ) (r : Option ℕ) (t : Entered p map base next stack depth out count stack' depth' out' r) where
     -- it was entered as the first that was left
-    record Took (x : Step) : Type 0 where
+    record Took (x : ℕ) : Type 0 where
       e : Entry
       es : List Entry
       left : w.es ≡ e ∷ es
       part : p ≡ part_for e
-      put : Put (arity e) (part_clauses (vars_of map base) next (part_for e) (stk stack depth)) next stack depth out count stack' out' (Some x)
+      put : Put (arity e) (part_clauses (vars_of map base) next (part_for e) (stk stack depth)) next stack depth out count stack' depth' out' (Some x)
 
-    took : (x : Step) → r ≡ Some x → Took x
+    took : (x : ℕ) → r ≡ Some x → Took x
     took x h = go w.es refl
       where
         go : (xs : List Entry) → w.es ≡ xs → Took x
@@ -165,7 +165,7 @@ module _ (s : List ℕ) (at : ℕ) (map : List ℕ) (base g : ℕ) (out₀ : Lis
             cc
 
     -- the record's bytes are passed
-    module _ (x : Step) (k : ℕ) (h : r ≡ Some x) (e : k ≡ length_of p) where
+    module _ (x : ℕ) (k : ℕ) (h : r ≡ Some x) (e : k ≡ length_of p) where
       o : Took x
       o = took x h
 
@@ -196,19 +196,18 @@ module _ (s : List ℕ) (at : ℕ) (map : List ℕ) (base g : ℕ) (out₀ : Lis
       pub next_fits : Fits w16 (next + 1)
       next_fits = record { fits = omega (arith, counted, w.formed.numbered) }
 
-      pub goes_on : length stack' ≡ length stack → length out' ≡ length out
-          → Walking s at map base g out₀ n stack' out' (place + k) (next + 1) x.n x.depth
+      pub goes_on : length out' ≡ length out
+          → Walking s at map base g out₀ n stack' out' (place + k) (next + 1) x depth'
       unfolding Sound flat
-      goes_on ls lo =
+      goes_on lo =
           let vs = vars_of map base in
           let st : List ℕ = stk stack depth in
           let cs : List Clause = part_clauses vs next (part_for o.e) st in
           let y : Sound w.bounds depth (o.e ∷ o.es) = rw o.left at w.sound in
-          let f : x ≡ step (depth - arity o.e + 1) (count + length cs) = cc o.put.goes_on in
-          let a : x.depth ≡ depth - arity o.e + 1 = ap (λ (z : Step). z.depth) f in
-          let b : x.n ≡ count + length cs = ap (λ (z : Step). z.n) f in
+          let a : depth' ≡ depth - arity o.e + 1 = o.put.height in
+          let b : x ≡ count + length cs = cc o.put.goes_on in
           let l : place + length (each write_entry (o.e ∷ o.es)) ≡ at + length (write_formula w.formula) = rw o.left at w.place_is in
-          let s' : stk stack' x.depth ≡ next ∷ drop (arity o.e) st = ap (stk stack') a ∙ o.put.held in
+          let s' : stk stack' depth' ≡ next ∷ drop (arity o.e) st = ap (stk stack') a ∙ o.put.held in
           let after : List ℕ → List Clause = λ st. flat vs (next + 1) o.es st in
           let u : count + length (cs ++ flat vs (next + 1) o.es (next ∷ drop (arity o.e) st)) ≡ n + length (defining vs g w.formula) = rw o.left at w.count_is in
           let v : emits out count (cs ++ flat vs (next + 1) o.es (next ∷ drop (arity o.e) st)) ≡ emits out₀ n (defining vs g w.formula) = rw o.left at w.out_is in
@@ -218,7 +217,7 @@ module _ (s : List ℕ) (at : ℕ) (map : List ℕ) (base g : ℕ) (out₀ : Lis
             rest = w.rest;
             formed = w.formed;
             es = o.es;
-            long = ls ∙ w.long;
+            long = t.tall ∙ w.long;
             long_out = lo ∙ w.long_out;
             low = omega (arith, y.0.room);
             small = λ j z. o.put.small j (omega arith);
@@ -226,7 +225,7 @@ module _ (s : List ℕ) (at : ℕ) (map : List ℕ) (base g : ℕ) (out₀ : Lis
             bytes = there;
             place_is = omega (arith, simp length-append at l, k_is);
             next_is = counted;
-            count_is = ap (λ (z : List ℕ). x.n + length (after z)) s' ∙ omega (arith, simp length-append at u);
+            count_is = ap (λ (z : List ℕ). x + length (after z)) s' ∙ omega (arith, simp length-append at u);
             out_is = (λ i. emits (o.put.wrote i) (b i) (after (s' i))) ∙ sym (emits_append out count cs (after (next ∷ drop (arity o.e) st))) ∙ v;
           }
 
