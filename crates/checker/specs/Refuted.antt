@@ -1,17 +1,17 @@
 -- What judging the three refutations of a certificate promises.
-use Rattle.std.specs.Prelude.{ℕ, ◌+◌, ◌*◌, ◌≤◌, ◌<◌, ◌≡◌, false, List, length, drop}
+use Rattle.std.specs.Prelude.{ℕ, ◌+◌, ◌*◌, ◌≤◌, ◌<◌, ◌≡◌, Result, false, List, length, drop}
 use Rattle.rules.specs.declared.Limits.{Limits}
 use Rattle.rules.specs.declared.Answer.{Answer}
+use Rattle.rules.specs.declared.refusals.Refusal.{Refusal}
 use Rattle.rules.specs.Formula.{Formula}
 use Rattle.rules.specs.Sheet.{Sheet}
 use Rattle.rules.specs.Certificate.{Which, Which.start, Which.keep, Which.safe}
 use Rattle.rules.specs.Clauses.{clause_set}
 use Rattle.rules.specs.Verdict.{answer_of}
 use Rattle.clauses.specs.declared.Layout.{Layout}
-use Rattle.clauses.specs.Sets.{Given, number_of}
+use Rattle.clauses.specs.Sets.{Given}
 use Rattle.refutation.specs.Memory.{slot_at}
 use Rattle.refutation.specs.Judging.{Case, verdict, Ends}
-use Rattle.refutation.specs.declared.Refuted.{Refuted}
 
 -- limits small enough for the code's numbers
 pub record Limited (l : Limits) : Type 0 where
@@ -26,21 +26,13 @@ abbrev pub clause_room : Limits → ℕ
 clause_room l = 3 * (l.coils + 3 * l.records + 6 * l.invariant + 2)
 
 -- a good sheet and its invariant stand in s and c, and the lent places are enough for them
-pub record SafeAt (l : Limits) (s c : List ℕ) (h : Layout) (before after stack work : List ℕ) : Type 0 where
+pub record SafeAt (l : Limits) (s c : List ℕ) (h : Layout) (work : List ℕ) : Type 0 where
   pub sheet : Sheet
   pub invariant : Formula
   pub rest : List ℕ
-  pub given : Given l s c h before after stack sheet invariant rest
-  pub before_narrow : length before < 32768
-  pub after_narrow : length after < 32768
+  pub given : Given l s c h sheet invariant rest
   pub limited : Limited l
   pub room : slot_at l (clause_room l) (l.steps + 1) ≤ length work
-
--- and the number is that of a set
-pub record RefuteAt (l : Limits) (which : ℕ) (s c : List ℕ) (h : Layout) (before after stack work : List ℕ) : Type 0 where
-  pub set : Which
-  pub numbered : number_of set ≡ which
-  pub safe_at : SafeAt l s c h before after stack work
 
 -- how many QEDs stand before each refutation
 unfoldable pub before_it : Which → ℕ
@@ -53,13 +45,12 @@ abbrev pub begun : Sheet → Formula → List ℕ → Which → ℕ → Case
 begun t inv c w fuel = record { sheet = t; invariant = inv; bytes = c; which = w; clauses = clause_set t inv w; qeds = before_it w; fuel = fuel }
 
 -- one refutation, from place p on
-abbrev pub Refutes : Limits → ℕ → List ℕ → List ℕ → Layout → ℕ → List ℕ → List ℕ → List ℕ → List ℕ → Refuted → Type 0
-Refutes l which s c h p before after stack work r =
-    (a : SafeAt l s c h before after stack work) (w : Which) → number_of w ≡ which → (fuel : ℕ) → length (drop p c) < fuel
-    → Ends l c p (begun a.sheet a.invariant c w fuel) r
+abbrev pub Refutes : Limits → Which → List ℕ → List ℕ → Layout → ℕ → List ℕ → Result ℕ Refusal → Type 0
+Refutes l w s c h p work r =
+    (a : SafeAt l s c h work) (fuel : ℕ) → length (drop p c) < fuel → Ends l c p (begun a.sheet a.invariant c w fuel) r
 
 -- the certificate from place p on, where the refutation of set w is about to begin
-abbrev pub Follows : Which → Limits → List ℕ → List ℕ → Layout → ℕ → List ℕ → List ℕ → List ℕ → List ℕ → Answer → Type 0
-Follows w l s c h p before after stack work r =
-    (a : SafeAt l s c h before after stack work) (fuel : ℕ) → length (drop p c) < fuel
+abbrev pub Follows : Which → Limits → List ℕ → List ℕ → Layout → ℕ → List ℕ → Result Answer Refusal → Type 0
+Follows w l s c h p work r =
+    (a : SafeAt l s c h work) (fuel : ℕ) → length (drop p c) < fuel
     → answer_of r ≡ verdict l c p 0 false (begun a.sheet a.invariant c w fuel)

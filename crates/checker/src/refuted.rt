@@ -1,11 +1,12 @@
 // A safety certificate over a good sheet: three refutations, each over its own clause set, then END.
 ghost use Rattle.std.specs.Prelude.{◌≡◌};
-ghost use Rattle.rules.specs.Certificate.{Which.start, Which.keep, Which.safe};
-ghost use Rattle.checker.specs.Refuted.{SafeAt, RefuteAt, clause_room, Refutes, Follows, Limited};
+ghost use Rattle.rules.specs.Certificate.{Which.start};
+ghost use Rattle.rules.specs.Verdict.{which_of};
+ghost use Rattle.checker.specs.Refuted.{SafeAt, clause_room, Refutes, Follows, Limited};
 
 use clauses::Layout;
-use refutation::Refuted;
-use rules::{Answer, Limits};
+use refutation::Clauses;
+use rules::{Answer, Limits, Refusal, Set};
 
 // The places for one clause set: the derived clauses stand behind it.
 fn clause_room(l: Limits) -> usize
@@ -16,92 +17,39 @@ fn clause_room(l: Limits) -> usize
 }
 
 // One refutation: its clauses are written first, and derived ones are not carried from one to the next.
+#[tactic(auto, using(crate::proofs::RefutedLaws::refute_cases))]
 fn refute(
     l: Limits,
-    which: u8,
+    set: Set,
     s: &[u8],
     c: &[u8],
     h: Layout,
     at: usize,
-    before: &mut [u16],
-    after: &mut [u16],
-    stack: &mut [u16],
     work: &mut [u16],
-) -> Refuted
-    requires { RefuteAt l which s.now c.now h before.old after.old stack.old work.old }
-    ensures { Refutes l which s.now c.now h at before.old after.old stack.old work.old result }
+) -> Result<usize, Refusal>
+    requires { SafeAt l s.now c.now h work.old }
+    ensures { Refutes l (which_of set) s.now c.now h at work.old result }
 {
     let from = clause_room(l);
-    let n = clauses::sets::clause_set(which, s, c, h, before, after, stack, &mut work[..from]);
-    refutation::steps_until_qed(l, c, at, work, n, from)
-}
-
-fn third(
-    l: Limits,
-    s: &[u8],
-    c: &[u8],
-    h: Layout,
-    at: usize,
-    before: &mut [u16],
-    after: &mut [u16],
-    stack: &mut [u16],
-    work: &mut [u16],
-) -> Answer
-    requires { SafeAt l s.now c.now h before.old after.old stack.old work.old }
-    ensures { Follows safe l s.now c.now h at before.old after.old stack.old work.old result }
-{
-    match refute(l, 3, s, c, h, at, before, after, stack, work) {
-        Refuted::Fault { no, place } => Answer::Refused {
-            no: no,
-            place: place,
-        },
-        Refuted::Done { at: next } => refutation::end_at(c, next),
-    }
-}
-
-fn second(
-    l: Limits,
-    s: &[u8],
-    c: &[u8],
-    h: Layout,
-    at: usize,
-    before: &mut [u16],
-    after: &mut [u16],
-    stack: &mut [u16],
-    work: &mut [u16],
-) -> Answer
-    requires { SafeAt l s.now c.now h before.old after.old stack.old work.old }
-    ensures { Follows keep l s.now c.now h at before.old after.old stack.old work.old result }
-{
-    match refute(l, 2, s, c, h, at, before, after, stack, work) {
-        Refuted::Fault { no, place } => Answer::Refused {
-            no: no,
-            place: place,
-        },
-        Refuted::Done { at: next } => third(l, s, c, h, next, before, after, stack, work),
-    }
+    let base = clauses::sets::clause_set(set, s, c, h, &mut work[..from]);
+    refutation::steps_until_qed(l, c, at, work, Clauses { base, from })
 }
 
 // The refutations of a certificate, from the place after INVARIANT on.
+#[tactic(auto, using(crate::proofs::RefutedLaws::safe_again))]
 pub fn judge_refutations(
     l: Limits,
     s: &[u8],
     c: &[u8],
     h: Layout,
     at: usize,
-    before: &mut [u16],
-    after: &mut [u16],
-    stack: &mut [u16],
     work: &mut [u16],
-) -> Answer
-    requires { SafeAt l s.now c.now h before.old after.old stack.old work.old }
-    ensures { Follows start l s.now c.now h at before.old after.old stack.old work.old result }
+) -> Result<Answer, Refusal>
+    requires { SafeAt l s.now c.now h work.old }
+    ensures { Follows start l s.now c.now h at work.old result }
 {
-    match refute(l, 1, s, c, h, at, before, after, stack, work) {
-        Refuted::Fault { no, place } => Answer::Refused {
-            no: no,
-            place: place,
-        },
-        Refuted::Done { at: next } => second(l, s, c, h, next, before, after, stack, work),
-    }
+    let second = refute(l, Set::Start, s, c, h, at, work)?;
+    let third = refute(l, Set::Keep, s, c, h, second, work)?;
+    let end = refute(l, Set::Safe, s, c, h, third, work)?;
+    refutation::end_at(c, end)
 }

@@ -1,8 +1,8 @@
 // A trace over a good sheet: the start values, then the replay.
 ghost use Rattle.std.specs.Prelude.{◌≡◌};
-ghost use Rattle.checker.specs.Traced.{starts_of, TracedAt, Traces};
+ghost use Rattle.checker.specs.Traced.{starts_of, TracedAt, Traces, PlayedAt, Plays};
 
-use rules::{Answer, Limits};
+use rules::{Answer, Limits, Refusal, Sheet};
 use sheets::Outline;
 use trace::Ladder;
 
@@ -10,15 +10,11 @@ use trace::Ladder;
 fn starts_of(h: Outline) -> usize
     ensures { result ≡ starts_of h }
 {
-    let at = h.rungs_at;
-    if at < 7 {
-        return 0;
-    }
-    (at - 7) / 4
+    h.rungs_at.saturating_sub(7) / 4
 }
 
-// The places for inputs and coils are cleared first, and the stack's are free.
-pub fn judge_trace(
+// The replay on lent places: all inputs are off, and the coils are as the sheet starts them.
+fn play(
     l: Limits,
     s: &[u8],
     c: &[u8],
@@ -26,20 +22,29 @@ pub fn judge_trace(
     inputs: &mut [u16],
     coils: &mut [u16],
     stack: &mut [u16],
-) -> Answer
-    requires { TracedAt l s.now c.now h inputs.old coils.old stack.old }
-    ensures { Traces l s.now c.now h inputs.old coils.old stack.old result }
+) -> Result<Answer, Refusal>
+    requires { PlayedAt l s.now c.now h inputs.old coils.old stack.old }
+    ensures { Plays l s.now c.now h inputs.old coils.old stack.old result }
 {
-    let n = inputs.len();
-    base::clear(inputs, n);
-    let m = coils.len();
-    base::clear(coils, m);
-    let starts = starts_of(h);
-    ladder::initialise(s, 7, starts, coils);
+    base::clear(inputs, inputs.len());
+    base::clear(coils, coils.len());
+    ladder::initialise(s, 7, starts_of(h), coils);
     let t = Ladder {
+        sheet: s,
         from: h.rungs_at,
         rungs: h.rungs,
         inputs: h.inputs,
     };
-    trace::replay(l, s, t, c, inputs, coils, stack)
+    trace::replay(l, t, c, inputs, coils, stack)
+}
+
+// A trace over a good sheet.
+pub fn judge_trace(l: Limits, s: &[u8], c: &[u8], h: Outline) -> Result<Answer, Refusal>
+    requires { TracedAt l s.now c.now h }
+    ensures { Traces l s.now c.now h result }
+{
+    let mut inputs = [0u16; Sheet::INPUTS];
+    let mut coils = [0u16; Sheet::COILS];
+    let mut stack = [0u16; Sheet::DEPTH];
+    play(l, s, c, h, &mut inputs, &mut coils, &mut stack)
 }

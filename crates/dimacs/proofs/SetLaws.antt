@@ -1,12 +1,12 @@
 -- The lines out of a room that holds a set's places are the set's, and set 2's last clause names the last of all variables.
 -- Assumes nothing.
-use Prim.Native.Nat.{ℕ, ◌+◌, ◌-◌, ◌*◌, ◌/◌, ◌≤◌, ◌<◌}
+use Prim.Native.Nat.{ℕ, ◌+◌, ◌-◌, ◌*◌, ◌/◌, ◌≤◌}
 use mathlib.Core.Path.{◌≡◌, refl, sym, ap, ap₂, ◌∙◌}
 use mathlib.Core.List.{List, [], ◌∷◌, ◌++◌, append_assoc}
 use native.Mathlib.Omega.{arith}
 use lib.ListN.{length, get_or, length-append}
 use lib.Seq.{get_or-append-add}
-use borrow.Author.Tests.{le-leb, lt-leb}
+use borrow.Author.Tests.{le-leb}
 use Rattle.base.specs.Lists.{All, each}
 use Rattle.rules.specs.Formula.{Formula}
 use Rattle.rules.specs.Sheet.{Sheet}
@@ -92,20 +92,3 @@ last_top t inv rest =
 
 pub text_is_the_sets : TextIsTheSets
 text_is_the_sets = record { lines = λ n cs rest h. lines_from n cs rest [] 0 refl h; last = last_top; fits = set_fits }
-
--- the code's tests
-module _ (w : List ℕ) (n : ℕ) where
-  pub last_none : n < 1 → 0 ≡ last_variable w n
-  unfolding last_variable
-  last_none h = rw (lt-leb 1 n h)
-
-  module _ (h : 1 ≤ n) where
-    pub last_short : length w / 3 < n → 0 ≡ last_variable w n
-    unfolding last_variable
-    last_short k = rw (le-leb 1 n h, lt-leb n (length w / 3) k)
-
-    pub last_there : (r : ℕ) → n ≤ length w / 3 → r ≡ get_or w (3 * (n - 1)) 0 / 2 → r ≡ last_variable w n
-    unfolding last_variable
-    last_there r k e = rw (le-leb 1 n h, le-leb n (length w / 3) k) e
-
-pub ruleset last_variable_cases = (last_none, last_short, last_there)

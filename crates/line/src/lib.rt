@@ -2,52 +2,50 @@
 #![tactic(auto)]
 
 ghost use Rattle.std.specs.Prelude.{◌≤◌, length};
+ghost use Rattle.rules.specs.Fault.{number_of};
 ghost use Rattle.rules.specs.Verdict.{answer_of};
 ghost use Rattle.writing.specs.Room.{enough, Put, Lined};
-ghost use Rattle.line.specs.Line.{line_of, accepted_line, confirmed_line, refused_line, unreadable_line};
+ghost use Rattle.line.specs.Line.{line_of, confirmed_line, refused_line, unreadable_line};
 
-use rules::Answer;
+use rules::{Answer, Refusal};
 
 // A room of this many bytes holds any line.
 pub const ROOM: usize = 64;
 
-fn put_accepted(out: &mut [u8]) -> usize
-    requires { enough ≤ length out.old }
-    ensures { Put out.old out.new 0 accepted_line result }
-{
-    writing::put_text(out, 0, b"accepted\n")
-}
-
+#[tactic(auto, using(writing::proofs::DecimalLaws::digits_fit))]
 fn put_confirmed(out: &mut [u8], scan: usize) -> usize
     requires { enough ≤ length out.old }
     ensures { Put out.old out.new 0 (confirmed_line scan) result }
 {
     let end = writing::put_numbered(out, 0, b"confirmed scan ", scan);
-    writing::put_byte(out, end, 10)
+    writing::put_byte(out, end, b'\n')
 }
 
-fn put_refused(out: &mut [u8], no: u8, place: usize) -> usize
+fn put_refused(out: &mut [u8], refusal: Refusal) -> usize
     requires { enough ≤ length out.old }
-    ensures { Put out.old out.new 0 (refused_line no place) result }
+    ensures { Put out.old out.new 0 (refused_line (number_of refusal.fault) refusal.place) result }
 {
-    writing::put_pair(out, b"refused ", no as usize, b" at ", place)
+    let number = usize::from(u8::from(refusal.fault));
+    writing::put_pair(out, b"refused ", number, b" at ", refusal.place)
 }
 
 // The line of an answer and its line feed, and how many bytes they are; a room of fewer than 64 bytes is left alone.
-pub fn write_line(answer: Answer, out: &mut [u8]) -> usize
+#[tactic(auto, using(writing::proofs::RoomLaws::line_cases), unfolding(crate::specs::Line::line_of, rules::specs::Verdict::answer_of))]
+pub fn write_line(answer: Result<Answer, Refusal>, out: &mut [u8]) -> usize
     ensures { Lined (line_of (answer_of answer)) out.old out.new result }
 {
     if out.len() < ROOM {
         return 0;
     }
     match answer {
-        Answer::Accepted => put_accepted(out),
-        Answer::Confirmed { scan } => put_confirmed(out, scan),
-        Answer::Refused { no, place } => put_refused(out, no, place),
+        Ok(Answer::Accepted) => writing::put_text(out, 0, b"accepted\n"),
+        Ok(Answer::Confirmed { scan }) => put_confirmed(out, scan),
+        Err(refusal) => put_refused(out, refusal),
     }
 }
 
 // The line where a file cannot be read.
+#[tactic(auto, using(writing::proofs::RoomLaws::line_cases))]
 pub fn write_unreadable(out: &mut [u8]) -> usize
     ensures { Lined unreadable_line out.old out.new result }
 {

@@ -1,9 +1,6 @@
 -- What reading a file answers. No contract can say which bytes a file holds.
-use Rattle.std.specs.Prelude.{ℕ, ◌≤◌, ◌+◌, List, length}
-use Rattle.loading.specs.declared.Loaded.{Loaded}
-use Rattle.loading.specs.declared.Loaded.TheVariants.{Bytes, Failed}
+use Rattle.std.specs.Prelude.{ℕ, ◌≤◌, ◌+◌, List, length, Option, IfSome}
 
--- the bytes that were read from a place on are there
-abbrev pub Holds : List ℕ → ℕ → Loaded → Type 0
-Holds w a (Bytes k) = a + k ≤ length w
-Holds w a Failed = Unit {0}
+-- the bytes that were read from a place on are there; none where the file cannot be read
+abbrev pub Holds : List ℕ → ℕ → Option ℕ → Type 0
+Holds w a r = IfSome r (λ k. a + k ≤ length w)

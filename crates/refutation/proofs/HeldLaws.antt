@@ -14,7 +14,8 @@ use Rattle.rules.specs.Clauses.{Clause}
 use Rattle.rules.specs.Resolution.{is_there, nth}
 use Rattle.refutation.specs.Memory.{part, Means, Slot, slot_at, Held, Fit}
 use Rattle.refutation.specs.Making.{Placed, Placed.in_base, Placed.in_slot, Placed.zeroth, Placed.past}
-use Rattle.refutation.specs.declared.Spot.TheVariants.{At, Nowhere}
+use Rattle.std.specs.Prelude.{Some, None}
+use Rattle.refutation.specs.declared.codes.Spot.{Spot}
 use Rattle.refutation.proofs.PartLaws.{part_front, get_d_front}
 use Rattle.refutation.proofs.SlotLaws.{slot_before}
 
@@ -27,7 +28,8 @@ is_there_lem : (cs : List Clause) (i : ℕ) → 1 ≤ i → i ≤ length cs → 
 unfolding is_there
 is_there_lem cs i a b = rw (le-leb 1 i a, le-leb i (length cs) b)
 
-pub located : {l : Limits} {w : List ℕ} {n from m i s k : ℕ} (cs : List Clause) → Held l w n from m cs → Placed l w n from m i (At s k) → Located w s k cs i
+pub located : {l : Limits} {w : List ℕ} {n from m i : ℕ} {x : Spot} (cs : List Clause) → Held l w n from m cs → Placed l w n from m i (Some x)
+    → Located w x.start x.count cs i
 located {i = i} cs h (in_base a b c d) = record {
   there = is_there_lem cs i a (omega (arith, h.count));
   means = rw (c, d) (h.base (i - 1) b);
@@ -39,7 +41,7 @@ located {n = n} {i = i} cs h (in_slot a b c d e) =
       means = rw (d, e) (rw f at (h.derived (i - 1 - n) c).literals);
     }
 
-pub not_there : {l : Limits} {w : List ℕ} {n from m i : ℕ} (cs : List Clause) → Held l w n from m cs → Placed l w n from m i Nowhere → is_there cs i ≡ false
+pub not_there : {l : Limits} {w : List ℕ} {n from m i : ℕ} (cs : List Clause) → Held l w n from m cs → Placed l w n from m i None → is_there cs i ≡ false
 unfolding is_there
 not_there cs h (zeroth e) = rw e
 not_there {i = i} cs h (past a) = let b : length cs < i = omega (arith, h.count) in rw (lt-leb i (length cs) b, and-false)

@@ -1,6 +1,5 @@
 pub mod PartLaws
 pub mod SlotLaws
-pub mod HasLaws
 pub mod AddLaws
 pub mod ResolveLaws
 pub mod CodeLaws

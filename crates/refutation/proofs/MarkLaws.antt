@@ -1,137 +1,83 @@
 -- The record at a place where STEP and QED are allowed: the code's answer is the rules' move.
 -- Assumes nothing.
-use Prim.Native.Nat.{ℕ, ◌+◌, ◌<◌}
-use mathlib.Core.Path.{◌≡◌, refl, sym, ◌∙◌}
-use mathlib.Core.Bool.{Bool, true, false}
+use Prim.Native.Nat.{ℕ, ◌<◌}
+use mathlib.Core.Path.{◌≡◌, refl, ◌∙◌}
+use mathlib.Core.Bool.{true, false}
 use mathlib.Core.List.{List, [], ◌∷◌}
+use native.Mathlib.Omega.{arith}
 use lib.ListN.{drop}
-use lib.Dec.{eqb, ltb}
-use borrow.Author.Tests.{ne_eqb, lt-ltb}
-use Rattle.base.specs.Pick.{pick}
-use Rattle.rules.specs.Record.{Front, Front.nothing, Front.unknown, Front.cut, Front.whole, front, record_length, one_of}
-use Rattle.rules.specs.Walk.{Move, Move.mark, Move.no, move_at}
-use Rattle.rules.specs.Certificate
-use Rattle.rules.specs.Certificate.{Mark.step, Mark.qed, steps_move, steps_reader}
-use Rattle.records.specs.Found.{found, record_at, number_at}
-use Rattle.records.specs.declared.Found.{Found}
-use Rattle.records.specs.declared.Found.TheVariants.{Nothing, NoKind, Cut, Whole}
-use Rattle.refutation.specs.Judging.{mark_whole, mark_cut, mark_front, mark_at}
-use Rattle.refutation.specs.declared.marks.Mark.{Mark}
-use Rattle.refutation.specs.declared.marks.Mark.TheVariants.{Step, Qed, Bad}
+use borrow.Author.Tests.{lt-ltb}
+use Rattle.std.specs.Prelude.{Result, Ok, Err}
+use Rattle.rules.specs.declared.refusals.Fault.{Fault}
+use Rattle.rules.specs.declared.refusals.Fault.TheVariants.{CertificateEnds, CertificateKind}
+use Rattle.rules.specs.Record.{one_of}
+use Rattle.rules.specs.Certificate.{steps_move, steps_reader}
+use Rattle.rules.specs.Walk.{move_at}
+use Rattle.records.specs.Found.{DueAt, number_at}
+use Rattle.records.specs.Kinds.{byte_of}
+use Rattle.records.specs.declared.Common.{Common}
+use Rattle.records.specs.declared.Record.{Record}
+use Rattle.records.specs.declared.kind.Kind.{Kind}
+use Rattle.records.specs.declared.kind.Kind.TheVariants as Kinds
+use Rattle.records.proofs.DueLaws.{move_refused, move_due, due_allowed}
+use Rattle.records.proofs.FrontLaws.{whole_ends, passes}
+use Rattle.refutation.specs.Judging.{Beyond, MarkAt}
+use Rattle.refutation.specs.declared.marks.Mark.TheVariants.{Step, Qed}
 
-module _ (c : List ℕ) (p k next : ℕ) where
-  pub whole_step : (a b v : ℕ) → a ≡ number_at c p 1 → b ≡ number_at c p 3 → v ≡ number_at c p 5 → k ≡ 0x40 → Step a b v next ≡ mark_whole (drop p c) k next
-  unfolding mark_whole
-  whole_step a b v ea eb ev e = rw (e, ea, eb, ev)
+abbrev pub certificate : Common
+certificate = record { ends = CertificateEnds; strange = CertificateKind }
 
-  pub whole_qed : k ≡ 0x41 → Qed next ≡ mark_whole (drop p c) k next
-  unfolding mark_whole
-  whole_qed e = rw e
+abbrev pub kinds : List ℕ
+kinds = 0x40 ∷ 0x41 ∷ []
 
-  pub whole_other : (k ≡ 0x40 → ⊥) → (k ≡ 0x41 → ⊥) → Bad 13 ≡ mark_whole (drop p c) k next
-  unfolding mark_whole
-  whole_other e f = rw (ne_eqb _ _ e, ne_eqb _ _ f)
+differ : false ≡ true → ⊥
+differ h = let z : ◌≡◌ {A = ℕ} 0 1 = cc in omega arith
 
-pub ruleset mark_whole_cases = (whole_step, whole_qed, whole_other)
+-- what is due is one of the two
+only : (k : Kind) → one_of kinds (byte_of k) ≡ true → (k ≡ Kinds.Qed → ⊥) → k ≡ Kinds.Step
+only Kinds.Step h n = refl
+only Kinds.Qed h n = absurd (n refl)
+only Kinds.Head h n = absurd (differ h)
+only Kinds.Start h n = absurd (differ h)
+only Kinds.Input h n = absurd (differ h)
+only Kinds.Coil h n = absurd (differ h)
+only Kinds.Constant h n = absurd (differ h)
+only Kinds.Not h n = absurd (differ h)
+only Kinds.And h n = absurd (differ h)
+only Kinds.Or h n = absurd (differ h)
+only Kinds.Rung h n = absurd (differ h)
+only Kinds.Condition h n = absurd (differ h)
+only Kinds.End h n = absurd (differ h)
+only Kinds.Safe h n = absurd (differ h)
+only Kinds.Invariant h n = absurd (differ h)
+only Kinds.Trace h n = absurd (differ h)
+only Kinds.InputOn h n = absurd (differ h)
+only Kinds.Scan h n = absurd (differ h)
 
-module _ (k : ℕ) where
-  pub cut_step : k ≡ 0x40 → Bad 12 ≡ mark_cut k
-  unfolding mark_cut
-  cut_step e = rw e
+module _ (c : List ℕ) (p : ℕ) where
+  due_now : (k : ℕ) → k < 3 → {r : Result Record Fault} → DueAt kinds c p certificate r → DueAt (steps_reader.allowed k) c p certificate r
+  unfolding steps_reader
+  due_now k h d = rw (lt-ltb k 3 h) d
 
-  pub cut_qed : k ≡ 0x41 → Bad 12 ≡ mark_cut k
-  unfolding mark_cut
-  cut_qed e = rw e
+  pub mark_refused : (f : Fault) → DueAt kinds c p certificate (Err f) → MarkAt c p (Err f)
+  unfolding steps_reader
+  mark_refused f d = record { is = λ k h. move_refused steps_reader k c p certificate f refl refl (due_now k h d); next = tt }
 
-  pub cut_other : (k ≡ 0x40 → ⊥) → (k ≡ 0x41 → ⊥) → Bad 13 ≡ mark_cut k
-  unfolding mark_cut
-  cut_other e f = rw (ne_eqb _ _ e, ne_eqb _ _ f)
+  module _ (x : Record) (d : DueAt kinds c p certificate (Ok x)) where
+    beyond : Beyond c p x.next
+    beyond = let f = (due_allowed kinds c p certificate x d).found in record { is = whole_ends c p x f; within = (passes c p x f).within }
 
-pub ruleset mark_cut_cases = (cut_step, cut_qed, cut_other)
+    move : (k : ℕ) → k < 3 → move_at steps_reader k (drop p c) ≡ steps_move k (byte_of x.kind) (drop p c)
+    unfolding steps_reader
+    move k h = move_due steps_reader k c p certificate x refl refl (due_now k h d)
 
--- the code's finding tells what stands at the front
-pub data Fronts (f : Front) (p : ℕ) : Found → Type 0 where
-  none : f ≡ nothing → Fronts f p Nothing
-  strange : f ≡ unknown → Fronts f p NoKind
-  short : {k : ℕ} → f ≡ cut k → Fronts f p (Cut k)
-  full : {k next : ℕ} → f ≡ whole k → next ≡ p + record_length k → Fronts f p (Whole k next)
+    pub mark_qed : x.kind ≡ Kinds.Qed → MarkAt c p (Ok (record { mark = Qed; next = x.next }))
+    unfolding steps_move
+    mark_qed e = record { is = λ k h. move k h ∙ rw (e, steps_move); next = beyond }
 
-fronts : (f : Front) (p : ℕ) → Fronts f p (found f p)
-unfolding found
-fronts nothing p = none refl
-fronts unknown p = strange refl
-fronts (cut k) p = short refl
-fronts (whole k) p = full refl refl
-
-module _ (c : List ℕ) (p : ℕ) (r : Found) (e : r ≡ record_at c p) where
-  pub front_of : (q : Found) → r ≡ q → Fronts (front (drop p c)) p q
-  front_of q h = rw (sym e ∙ h) at (fronts (front (drop p c)) p)
-
-  pub mark_nothing : r ≡ Nothing → Bad 12 ≡ mark_at c p
-  unfolding mark_front
-  mark_nothing h = go (front_of Nothing h)
-    where
-      go : Fronts (front (drop p c)) p Nothing → Bad 12 ≡ mark_at c p
-      go (none f) = rw (f, mark_front)
-
-  pub mark_strange : r ≡ NoKind → Bad 13 ≡ mark_at c p
-  unfolding mark_front
-  mark_strange h = go (front_of NoKind h)
-    where
-      go : Fronts (front (drop p c)) p NoKind → Bad 13 ≡ mark_at c p
-      go (strange f) = rw (f, mark_front)
-
-  pub mark_short : (k : ℕ) → r ≡ Cut k → (m : Mark) → m ≡ mark_cut k → m ≡ mark_at c p
-  unfolding mark_front
-  mark_short k h m z = go (front_of (Cut k) h)
-    where
-      go : Fronts (front (drop p c)) p (Cut k) → m ≡ mark_at c p
-      go (short f) = rw (f, mark_front) z
-
-  pub mark_full : (k next : ℕ) → r ≡ Whole k next → (m : Mark) → m ≡ mark_whole (drop p c) k next → m ≡ mark_at c p
-  unfolding mark_front
-  mark_full k next h m z = go (front_of (Whole k next) h)
-    where
-      go : Fronts (front (drop p c)) p (Whole k next) → m ≡ mark_at c p
-      go (full f g) = rw (f, mark_front, ← g) z
-
-pub ruleset mark_at_cases = (mark_nothing, mark_strange, mark_short, mark_full)
-
--- the rules' move of a mark, where k QEDs came before
-unfoldable pub move_of : Mark → ℕ → Move ℕ Certificate.Mark (Unit {0})
-move_of (Step a b v next) k = mark (step (record { first = a; second = b; pivot = v })) k
-move_of (Qed next) k = mark qed (k + 1)
-move_of (Bad n) k = no n
-
-by_whole : (bs : List ℕ) (j next k : ℕ)
-    → pick (one_of (0x40 ∷ 0x41 ∷ []) j) (steps_move k j bs) (no 13) ≡ move_of (mark_whole bs j next) k
-unfolding steps_move mark_whole move_of
-by_whole bs j next k = go (eqb j 0x40) refl (eqb j 0x41) refl
-  where
-    go : (a : Bool) → eqb j 0x40 ≡ a → (b : Bool) → eqb j 0x41 ≡ b
-        → pick (one_of (0x40 ∷ 0x41 ∷ []) j) (steps_move k j bs) (no 13) ≡ move_of (mark_whole bs j next) k
-    go true e b f = rw (e, steps_move, mark_whole, move_of)
-    go false e true f = rw (e, f, steps_move, mark_whole, move_of)
-    go false e false f = rw (e, f, mark_whole, move_of)
-
-by_cut : (j k : ℕ) → ◌≡◌ {A = Move ℕ Certificate.Mark (Unit {0})} (pick (one_of (0x40 ∷ 0x41 ∷ []) j) (no 12) (no 13)) (move_of (mark_cut j) k)
-unfolding mark_cut move_of
-by_cut j k = go (one_of (0x40 ∷ 0x41 ∷ []) j) refl
-  where
-    go : (a : Bool) → one_of (0x40 ∷ 0x41 ∷ []) j ≡ a
-        → ◌≡◌ {A = Move ℕ Certificate.Mark (Unit {0})} (pick (one_of (0x40 ∷ 0x41 ∷ []) j) (no 12) (no 13)) (move_of (mark_cut j) k)
-    go true e = rw (e, mark_cut, move_of)
-    go false e = rw (e, mark_cut, move_of)
-
-pub moves : (c : List ℕ) (p k : ℕ) → k < 3 → move_at steps_reader k (drop p c) ≡ move_of (mark_at c p) k
-unfolding move_at steps_reader mark_front move_of
-moves c p k h = go (front (drop p c)) refl
-  where
-    few : ltb k 3 ≡ true
-    few = lt-ltb k 3 h
-
-    go : (f : Front) → front (drop p c) ≡ f → move_at steps_reader k (drop p c) ≡ move_of (mark_at c p) k
-    go nothing e = rw (move_at, e, mark_front, move_of)
-    go unknown e = rw (move_at, e, mark_front, move_of)
-    go (cut j) e = rw (move_at, e, few, mark_front) (by_cut j k)
-    go (whole j) e = rw (move_at, e, few, mark_front) (by_whole (drop p c) j (p + record_length j) k)
+    pub mark_step : (x.kind ≡ Kinds.Qed → ⊥) → (a b v : ℕ) → a ≡ number_at c p 1 → b ≡ number_at c p 3 → v ≡ number_at c p 5
+        → MarkAt c p (Ok (record { mark = Step (record { first = a; second = b; pivot = v }); next = x.next }))
+    unfolding steps_move
+    mark_step n a b v ea eb ev =
+        let e = only x.kind (due_allowed kinds c p certificate x d).kind n in
+        record { is = λ k h. move k h ∙ rw (e, steps_move, ea, eb, ev); next = beyond }

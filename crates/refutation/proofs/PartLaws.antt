@@ -2,11 +2,15 @@
 -- Assumes nothing.
 use Prim.Native.Nat.{ℕ, zero, suc, ◌+◌, ◌-◌, ◌≤◌, ◌<◌}
 use mathlib.Core.Path.{◌≡◌, refl, sym, ap, ◌∙◌}
+use mathlib.Core.Bool.{Bool, ◌||◌}
 use mathlib.Core.List.{List, [], ◌∷◌, ◌++◌}
 use native.Mathlib.Numerals.{add-one}
 use native.Mathlib.Omega.{arith}
 use lib.ListN.{length, get_or, take, drop, set, length-drop, drop_of_length-le}
 use lib.Seq.{drop-cons, get_or-take, get_or-drop, length-take-le, take-take, drop-drop, take-suc-set, drop-set-add, take-set-le, drop-set-lt}
+use lib.Dec.{eqb}
+use Rattle.std.specs.List.{list_any}
+use Rattle.rules.specs.Record.{one_of}
 use Rattle.refutation.specs.Memory.{part, Outside}
 
 module _ (w : List ℕ) (s k : ℕ) (h : s + k ≤ length w) where
@@ -23,6 +27,10 @@ module _ (w : List ℕ) (s k : ℕ) (h : s + k ≤ length w) where
 
   pub none_left : (i : ℕ) → k ≤ i → drop i (part w s k) ≡ []
   none_left i j = let e : length (part w s k) ≤ i = rw part_length j in drop_of_length-le (part w s k) e
+
+-- a range of places is a part
+pub ranged : (w : List ℕ) (s k : ℕ) → take (s + k - s) (drop s w) ≡ part w s k
+ranged w s k = ap (λ (y : ℕ). take y (drop s w)) (omega arith)
 
 -- take and drop agree with a part that lies before a
 pub take_drop : (s k a : ℕ) (w : List ℕ) → s + k ≤ a → take k (drop s (take a w)) ≡ take k (drop s w)
@@ -66,3 +74,8 @@ part_more w a k x h =
 
 pub outside_set : (a b : ℕ) (w : List ℕ) (i x : ℕ) → a ≤ i → i < b → Outside a b w (set w i x)
 outside_set a b w i x h k = record { front = take-set-le a w i x h; rest = drop-set-lt b w i x k }
+
+-- a search by the slice's method, as the rules' word
+pub any_one : (xs : List ℕ) (x : ℕ) → list_any (eqb x) xs ≡ one_of xs x
+any_one [] x = refl
+any_one (y ∷ ys) x = ap (λ (b : Bool). eqb x y || b) (any_one ys x)

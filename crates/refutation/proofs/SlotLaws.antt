@@ -9,8 +9,8 @@ use lib.ListN.{length, get_or}
 use Rattle.rules.specs.declared.Limits.{Limits}
 use Rattle.refutation.specs.Memory.{slot_at, Room, Fit}
 use Rattle.refutation.specs.Making.{Slotted, Placed, Placed.in_base, Placed.in_slot, Placed.zeroth, Placed.past, Pair}
-use Rattle.refutation.specs.declared.Spot.{Spot}
-use Rattle.refutation.specs.declared.Spot.TheVariants.{At, Nowhere}
+use Rattle.std.specs.Prelude.{Some, None}
+use Rattle.refutation.specs.declared.codes.Spot.{Spot}
 
 scaled : (s j k : ℕ) → j < k → j * s + s ≤ k * s
 scaled s j k h =
@@ -37,39 +37,36 @@ pub slotted : (l : Limits) (w : List ℕ) (n from j : ℕ) → Room l w n from �
 slotted l w n from j r h = record { starts = refl; fits = slot_room l w n from j r h }
 
 module _ (l : Limits) (w : List ℕ) (n from m i : ℕ) where
-  pub spot_none : i ≡ 0 → Placed l w n from m i Nowhere
+  pub spot_none : i ≡ 0 → Placed l w n from m i None
   spot_none e = zeroth e
 
   module _ (e : i ≡ 0 → ⊥) where
-    pub spot_base : i - 1 < n → Placed l w n from m i (At (3 * (i - 1)) 3)
+    pub spot_base : i - 1 < n → Placed l w n from m i (Some (record { start = 3 * (i - 1); count = 3 }))
     spot_base h = in_base (omega arith) h refl refl
 
-    pub spot_past : n ≤ i - 1 → m ≤ i - 1 - n → Placed l w n from m i Nowhere
+    pub spot_past : n ≤ i - 1 → m ≤ i - 1 - n → Placed l w n from m i None
     spot_past h k = past (omega arith)
 
-    pub spot_slot : (at count : ℕ) → n ≤ i - 1 → i - 1 - n < m → Slotted l w from (i - 1 - n) at → count ≡ get_or w at 0 → Placed l w n from m i (At (at + 1) count)
+    pub spot_slot : (at count : ℕ) → n ≤ i - 1 → i - 1 - n < m → Slotted l w from (i - 1 - n) at → count ≡ get_or w at 0 → Placed l w n from m i (Some (record { start = at + 1; count = count }))
     spot_slot at count h k f g =
         in_slot (omega arith) h k (ap (λ (x : ℕ). x + 1) f.starts) (g ∙ ap (λ (x : ℕ). get_or w x 0) f.starts)
 
 pub ruleset locate_cases = (spot_none, spot_base, spot_past, spot_slot)
 
 -- a clause's places lie below the slot of the next one
-placed_before : {l : Limits} {w : List ℕ} {n from m i s k : ℕ} → Fit l w n from m → Placed l w n from m i (At s k) → s + k ≤ slot_at l from m
+placed_before : {l : Limits} {w : List ℕ} {n from m i : ℕ} {x : Spot} → Fit l w n from m → Placed l w n from m i (Some x)
+    → x.start + x.count ≤ slot_at l from m
 placed_before f (in_base a b c d) = omega (arith, f.space.below)
 placed_before {l} {w} {n} {from} {m} {i} f (in_slot a b c d e) =
     let x = slot_before l from (i - 1 - n) m c in
     let y = f.small (i - 1 - n) c in
     omega arith
 
-pub pair_of : (l : Limits) (w : List ℕ) (n from m i j at : ℕ) → Fit l w n from m → Slotted l w from m at
-    → (r : Spot) (s k : ℕ) → Placed l w n from m i r → r ≡ At s k
-    → (r' : Spot) (s' k' : ℕ) → Placed l w n from m j r' → r' ≡ At s' k' → Pair l w at s k s' k'
-pair_of l w n from m i j at f o r s k p e r' s' k' p' e' =
-    let q : Placed l w n from m i (At s k) = rw e at p in
-    let q' : Placed l w n from m j (At s' k') = rw e' at p' in
-    record {
-      first = omega (arith, placed_before f q, o.starts);
-      second = omega (arith, placed_before f q', o.starts);
-      fits = o.fits;
-      narrow = f.space.narrow;
-    }
+pub pair_of : (l : Limits) (w : List ℕ) (n from m i j at : ℕ) (x y : Spot) → Fit l w n from m → Slotted l w from m at
+    → Placed l w n from m i (Some x) → Placed l w n from m j (Some y) → Pair l w at x y
+pair_of l w n from m i j at x y f o p q = record {
+  first = omega (arith, placed_before f p, o.starts);
+  second = omega (arith, placed_before f q, o.starts);
+  fits = o.fits;
+  narrow = f.space.narrow;
+}

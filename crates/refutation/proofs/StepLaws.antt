@@ -2,7 +2,7 @@
 -- Assumes nothing.
 use Prim.Native.Nat.{ℕ, ◌+◌, ◌*◌, ◌≤◌}
 use mathlib.Core.Path.{◌≡◌, sym, ap, ◌∙◌}
-use mathlib.Core.Bool.{true, false, ◌&&◌, and-false}
+use mathlib.Core.Bool.{Bool, true, false, ◌&&◌, and-false}
 use mathlib.Core.List.{List}
 use lib.ListN.{length, get_or}
 use lib.Dec.{ltb, leb, eqb}
@@ -13,12 +13,12 @@ use Rattle.rules.specs.Certificate.{Step}
 use Rattle.rules.specs.Clauses
 use Rattle.rules.specs.Resolution.{resolvent, is_there, nth, derive, Derived.clause, Derived.fault}
 use Rattle.refutation.specs.Memory.{part, Means, Slot, slot_at, Held, Fit, Outside}
-use Rattle.refutation.specs.Making.{Slotted, Placed, union, Made, Made.over, Made.late, Made.made, pivots, Tried, Tried.missing, Tried.tried}
+use Rattle.refutation.specs.Making.{codes, Slotted, Placed, union, Made, Made.over, Made.late, Made.made, pivots, Tried, Tried.missing, Tried.tried}
 use Rattle.refutation.specs.Steps.{Follows.refuses, Follows.derives, FitNext, Stepped}
-use Rattle.refutation.specs.declared.Spot.{Spot}
-use Rattle.refutation.specs.declared.Spot.TheVariants.{At, Nowhere}
-use Rattle.refutation.specs.declared.Derived.{Derived}
-use Rattle.refutation.specs.declared.Derived.TheVariants.{Fault}
+use Rattle.std.specs.Prelude.{Some, None, Result, Err}
+use Rattle.rules.specs.declared.refusals.Fault.{Fault}
+use Rattle.rules.specs.declared.refusals.Fault.TheVariants.{NoClause}
+use Rattle.refutation.specs.declared.codes.Spot.{Spot}
 use Rattle.refutation.proofs.PartLaws.{outside_same}
 use Rattle.refutation.proofs.SlotLaws.{slot_next}
 use Rattle.refutation.proofs.HeldLaws.{located, not_there, held_more, fit_more}
@@ -42,72 +42,74 @@ module _ (l : Limits) (m : ℕ) (q : Step) (bs ds : List ℕ) (cs : List Clauses
       rw (derive, u, v, y, z)
 
 module _ (l : Limits) (w : List ℕ) (n from m : ℕ) (q : Step) where
-  no_clause : ((cs : List Clauses.Clause) → Held l w n from m cs → (is_there cs q.first && is_there cs q.second) ≡ false) → Stepped l w n from m q w (Fault 18)
+  no_clause : ((cs : List Clauses.Clause) → Held l w n from m cs → (is_there cs q.first && is_there cs q.second) ≡ false) → Stepped l w n from m q w (Err NoClause)
   unfolding derive FitNext
   no_clause f = record {
-    follows = λ cs h. let e = f cs h in refuses {k = 18} (rw (derive, e));
+    follows = λ cs h. let e = f cs h in refuses (rw (derive, e));
     fit = tt;
     outside = outside_same (slot_at l from m) (slot_at l from (m + 1)) w;
   }
 
-  pub no_first : (r : Spot) → Placed l w n from m q.first r → r ≡ Nowhere → Stepped l w n from m q w (Fault 18)
-  no_first r p e =
-      let p' : Placed l w n from m q.first Nowhere = rw e at p in
-      no_clause (λ cs h. rw (not_there cs h p'))
+  pub no_first : Placed l w n from m q.first None → Stepped l w n from m q w (Err NoClause)
+  no_first p = no_clause (λ cs h. rw (not_there cs h p))
 
-  pub no_second : (r : Spot) → Placed l w n from m q.second r → r ≡ Nowhere → Stepped l w n from m q w (Fault 18)
-  no_second r p e =
-      let p' : Placed l w n from m q.second Nowhere = rw e at p in
-      no_clause (λ cs h. rw (not_there cs h p', and-false))
+  pub no_second : Placed l w n from m q.second None → Stepped l w n from m q w (Err NoClause)
+  no_second p = no_clause (λ cs h. rw (not_there cs h p, and-false))
 
   -- both clauses are there, and the slot of the next one is at place a
-  module _ (f : Fit l w n from m) (a : ℕ) (o : Slotted l w from m a) (s k : ℕ) (p : Placed l w n from m q.first (At s k))
-      (t z : ℕ) (p' : Placed l w n from m q.second (At t z)) (w' : List ℕ) (long : length w' ≡ length w) where
+  module _ (f : Fit l w n from m) (a : ℕ) (o : Slotted l w from m a) (first second : Spot) (p : Placed l w n from m q.first (Some first))
+      (p' : Placed l w n from m q.second (Some second)) (w' : List ℕ) (long : length w' ≡ length w) where
+    abbrev bs : List ℕ
+    bs = codes w first
+
+    abbrev ds : List ℕ
+    ds = codes w second
+
     around : Outside a (a + (l.width + 1)) w w' → Outside (slot_at l from m) (slot_at l from (m + 1)) w w'
     around g =
         let x : a ≡ slot_at l from m = o.starts in
         let y : slot_at l from (m + 1) ≡ a + (l.width + 1) = slot_next l from m ∙ ap (λ (i : ℕ). i + (l.width + 1)) (sym x) in
         rw (y, ← x) g
 
-    lacking : (cs : List Clauses.Clause) → Held l w n from m cs → pivots (part w s k) (part w t z) q.pivot ≡ false → derive l cs m q ≡ fault 19
+    lacking : (cs : List Clauses.Clause) → Held l w n from m cs → pivots bs ds q.pivot ≡ false → derive l cs m q ≡ fault 19
     lacking cs h v =
         let b = located cs h p in
         let d = located cs h p' in
-        lacks l m q (part w s k) (part w t z) cs b.there b.means d.there d.means v
+        lacks l m q bs ds cs b.there b.means d.there d.means v
 
-    judging : (cs : List Clauses.Clause) → Held l w n from m cs → pivots (part w s k) (part w t z) q.pivot ≡ true
+    judging : (cs : List Clauses.Clause) → Held l w n from m cs → pivots bs ds q.pivot ≡ true
         → derive l cs m q
-        ≡ pick (ltb l.width (length (union (part w s k) (part w t z) (2 * q.pivot)))) (fault 20)
+        ≡ pick (ltb l.width (length (union bs ds (2 * q.pivot)))) (fault 20)
         (pick (leb l.steps m) (fault 21) (clause (resolvent q.pivot (nth cs q.first) (nth cs q.second))))
     judging cs h v =
         let b = located cs h p in
         let d = located cs h p' in
-        judged l m q (part w s k) (part w t z) cs b.there b.means d.there d.means v
+        judged l m q bs ds cs b.there b.means d.there d.means v
 
     -- the slot holds the resolvent
-    held : (cs : List Clauses.Clause) → Held l w n from m cs → get_or w' a 0 ≡ length (union (part w s k) (part w t z) (2 * q.pivot))
-        → part w' (a + 1) (length (union (part w s k) (part w t z) (2 * q.pivot))) ≡ union (part w s k) (part w t z) (2 * q.pivot)
+    held : (cs : List Clauses.Clause) → Held l w n from m cs → get_or w' a 0 ≡ length (union bs ds (2 * q.pivot))
+        → part w' (a + 1) (length (union bs ds (2 * q.pivot))) ≡ union bs ds (2 * q.pivot)
         → Slot w' (slot_at l from m) (resolvent q.pivot (nth cs q.first) (nth cs q.second))
     held cs h x y =
         let b = (located cs h p).means in
         let d = (located cs h p').means in
         rw (← o.starts)
         (record {
-          size = x ∙ union_size (part w s k) (part w t z) (nth cs q.first) (nth cs q.second) q.pivot b d;
+          size = x ∙ union_size bs ds (nth cs q.first) (nth cs q.second) q.pivot b d;
           set = once_resolvent q.pivot (nth cs q.first) (nth cs q.second);
-          literals = rw (x, y) (union_means (part w s k) (part w t z) (nth cs q.first) (nth cs q.second) q.pivot b d);
+          literals = rw (x, y) (union_means bs ds (nth cs q.first) (nth cs q.second) q.pivot b d);
         })
 
-    step_made : {r : Derived} → pivots (part w s k) (part w t z) q.pivot ≡ true → Outside a (a + (l.width + 1)) w w'
-        → Made l m w' a (union (part w s k) (part w t z) (2 * q.pivot)) r → Stepped l w n from m q w' r
+    step_made : {r : Result Bool Fault} → pivots bs ds q.pivot ≡ true → Outside a (a + (l.width + 1)) w w'
+        → Made l m w' a (union bs ds (2 * q.pivot)) r → Stepped l w n from m q w' r
     unfolding FitNext
     step_made v g (over x) = record {
-      follows = λ cs h. refuses {k = 20} (judging cs h v ∙ rw (lt-ltb _ _ x));
+      follows = λ cs h. refuses (judging cs h v ∙ rw (lt-ltb _ _ x));
       fit = tt;
       outside = around g;
     }
     step_made v g (late x y) = record {
-      follows = λ cs h. refuses {k = 21} (judging cs h v ∙ rw (le-ltb _ _ x, le-leb _ _ y));
+      follows = λ cs h. refuses (judging cs h v ∙ rw (le-ltb _ _ x, le-leb _ _ y));
       fit = tt;
       outside = around g;
     }
@@ -117,14 +119,14 @@ module _ (l : Limits) (w : List ℕ) (n from m : ℕ) (q : Step) where
         record {
           follows = λ cs h.
               let e : Clauses.Clause = resolvent q.pivot (nth cs q.first) (nth cs q.second) in
-              let i = union_size (part w s k) (part w t z) (nth cs q.first) (nth cs q.second) q.pivot (located cs h p).means (located cs h p').means in
+              let i = union_size bs ds (nth cs q.first) (nth cs q.second) q.pivot (located cs h p).means (located cs h p').means in
               derives e (judging cs h v ∙ rw (le-ltb _ _ x, lt-leb _ _ y)) (b ∙ ap (λ (j : ℕ). eqb j 0) i ∙ sym (empty_length e))
               (held_more l w w' n from m f front cs e h (held cs h size lits));
           fit = fit_more l w w' n from m f front long y here;
           outside = around g;
         }
 
-    step_tried : {r : Derived} → Tried l m w a (part w s k) (part w t z) q.pivot w' r → Stepped l w n from m q w' r
+    step_tried : {r : Result Bool Fault} → Tried l m w a bs ds q.pivot w' r → Stepped l w n from m q w' r
     unfolding FitNext
     step_tried (missing v g) = record {
       follows = λ cs h. refuses (lacking cs h v);
@@ -133,10 +135,7 @@ module _ (l : Limits) (w : List ℕ) (n from m : ℕ) (q : Step) where
     }
     step_tried (tried v g) = step_made v g.outside g.made
 
-  pub stepped : Fit l w n from m → (a : ℕ) → Slotted l w from m a
-      → (r : Spot) (s k : ℕ) → Placed l w n from m q.first r → r ≡ At s k
-      → (r' : Spot) (t z : ℕ) → Placed l w n from m q.second r' → r' ≡ At t z
-      → (w' : List ℕ) → length w' ≡ length w → (d : Derived) → Tried l m w a (part w s k) (part w t z) q.pivot w' d → Stepped l w n from m q w' d
-  stepped f a o r s k p e r' t z p' e' w' long d g = step_tried f a o s k (rw e at p) t z (rw e' at p') w' long g
-
-pub ruleset step_cases = (no_first, no_second, stepped)
+  pub stepped : Fit l w n from m → (a : ℕ) → Slotted l w from m a → (x y : Spot) → Placed l w n from m q.first (Some x) → Placed l w n from m q.second (Some y)
+      → (w' : List ℕ) → length w' ≡ length w → (d : Result Bool Fault) → Tried l m w a (codes w x) (codes w y) q.pivot w' d
+      → Stepped l w n from m q w' d
+  stepped f a o x y p p' w' long d g = step_tried f a o x y p p' w' long g

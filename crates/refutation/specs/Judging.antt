@@ -1,41 +1,42 @@
 -- A refutation's records, one after the other, against the rules.
-use Rattle.std.specs.Prelude.{ℕ, ◌+◌, ◌<◌, ◌≡◌, Bool, false, List, [], ◌∷◌, length, drop, eqb, ltb}
-use Rattle.base.specs.Pick.{pick}
+use Rattle.std.specs.Prelude.{ℕ, ◌+◌, ◌≤◌, ◌<◌, ◌≡◌, Result, Ok, Err, IfOk, Bool, false, List, length, get_or, drop}
 use Rattle.rules.specs.declared.Limits.{Limits}
 use Rattle.rules.specs.declared.Answer.{Answer}
-use Rattle.rules.specs.declared.Answer.TheVariants.{Accepted, Refused}
-use Rattle.rules.specs.Kind
-use Rattle.rules.specs.Record.{Front, Front.nothing, Front.unknown, Front.cut, Front.whole, front, record_length, number, one_of}
-use Rattle.rules.specs.Walk.{◌at◌, walk}
+use Rattle.rules.specs.declared.refusals.Fault.{Fault}
+use Rattle.rules.specs.declared.refusals.Refusal.{Refusal}
+use Rattle.rules.specs.Fault.{number_of, refusal_of}
+use Rattle.rules.specs.Record.{record_length}
+use Rattle.rules.specs.Walk.{Move, Move.mark, Move.no, move_at, walk}
 use Rattle.rules.specs.Formula.{Formula}
 use Rattle.rules.specs.Sheet.{Sheet}
-use Rattle.rules.specs.Certificate.{Which, steps_reader}
+use Rattle.rules.specs.Certificate
+use Rattle.rules.specs.Certificate.{Which, Mark.step, Mark.qed, steps_reader}
 use Rattle.rules.specs.Clauses.{Clause}
 use Rattle.rules.specs.Verdict.{Verdict, Verdict.refused, Refuting, following, refuting, judge_steps, answer_of}
 use Rattle.refutation.specs.Memory.{slot_at, Held, Outside}
+use Rattle.refutation.specs.Steps.{step_of}
 use Rattle.refutation.specs.declared.marks.Mark.{Mark}
-use Rattle.refutation.specs.declared.marks.Mark.TheVariants.{Step, Qed, Bad}
-use Rattle.refutation.specs.declared.Refuted.{Refuted}
-use Rattle.refutation.specs.declared.Refuted.TheVariants.{Done, Fault}
+use Rattle.refutation.specs.declared.marks.Mark.TheVariants.{Step, Qed}
+use Rattle.refutation.specs.declared.marks.Marked.{Marked}
 
--- a whole record of kind k at the front of bytes, and the place after it, where STEP and QED are allowed
-unfoldable pub mark_whole : List ℕ → ℕ → ℕ → Mark
-mark_whole bs k next =
-    pick (eqb k Kind.STEP) (Step (number bs 1) (number bs 3) (number bs 5) next)
-    (pick (eqb k Kind.QED) (Qed next) (Bad 13))
+-- the rules' move where k QEDs came before: of a mark, and of a refusal
+abbrev pub marked : Mark → ℕ → Move ℕ Certificate.Mark (Unit {0})
+marked (Step q) k = mark (step (step_of q)) k
+marked Qed k = mark qed (k + 1)
 
-unfoldable pub mark_cut : ℕ → Mark
-mark_cut k = pick (one_of (Kind.STEP ∷ Kind.QED ∷ []) k) (Bad 12) (Bad 13)
+abbrev pub move_of : Result Marked Fault → ℕ → Move ℕ Certificate.Mark (Unit {0})
+move_of (Ok x) k = marked x.mark k
+move_of (Err f) k = no (number_of f)
 
--- what stands at the front of the bytes from place p on
-unfoldable pub mark_front : Front → List ℕ → ℕ → Mark
-mark_front nothing bs p = Bad 12
-mark_front unknown bs p = Bad 13
-mark_front (cut k) bs p = mark_cut k
-mark_front (whole k) bs p = mark_whole bs k (p + record_length k)
+-- the record at place p is whole, and next is the place after it
+pub record Beyond (c : List ℕ) (p next : ℕ) : Type 0 where
+  pub is : next ≡ p + record_length (get_or (drop p c) 0 0)
+  pub within : next ≤ length c
 
-abbrev pub mark_at : List ℕ → ℕ → Mark
-mark_at c p = mark_front (front (drop p c)) (drop p c) p
+-- the code's answer is the rules' move at place p, where STEP and QED are allowed
+pub record MarkAt (c : List ℕ) (p : ℕ) (r : Result Marked Fault) : Type 0 where
+  pub is : (k : ℕ) → k < 3 → move_at steps_reader k (drop p c) ≡ move_of r k
+  pub next : IfOk r (λ x. Beyond c p x.next)
 
 -- a refutation that begins: its sheet, invariant and bytes, which of the three it is, its clauses, the QEDs before it, and a bound on its records
 pub record Case : Type 0 where
@@ -66,20 +67,16 @@ pub record Stands (l : Limits) (w : List ℕ) (n from m : ℕ) (c : List ℕ) (p
   pub enough : length (drop p c) < x.fuel
 
 -- the code's answer: the verdict is this refusal, or it is the verdict on the rest after this QED
-pub data Ends (l : Limits) (c : List ℕ) (p : ℕ) (x : Case) : Refuted → Type 0 where
-  refuses : {k q : ℕ} → verdict l c p 0 false x ≡ refused (k at q) → Ends l c p x (Fault k q)
-  closes : {q : ℕ} (fuel : ℕ) → length (drop q c) < fuel → verdict l c p 0 false x ≡ verdict_next l c q fuel x → Ends l c p x (Done q)
+pub data Ends (l : Limits) (c : List ℕ) (p : ℕ) (x : Case) : Result ℕ Refusal → Type 0 where
+  refuses : {f : Refusal} → verdict l c p 0 false x ≡ refused (refusal_of f) → Ends l c p x (Err f)
+  closes : {q : ℕ} (fuel : ℕ) → length (drop q c) < fuel → verdict l c p 0 false x ≡ verdict_next l c q fuel x → Ends l c p x (Ok q)
 
 -- of any refutation that begins here; base clauses and the places past the slots are as they were
-pub record Judged (l : Limits) (c : List ℕ) (p : ℕ) (w : List ℕ) (n from : ℕ) (w' : List ℕ) (r : Refuted) : Type 0 where
+pub record Judged (l : Limits) (c : List ℕ) (p : ℕ) (w : List ℕ) (n from : ℕ) (w' : List ℕ) (r : Result ℕ Refusal) : Type 0 where
   pub ends : (x : Case) → Stands l w n from 0 c p x → Ends l c p x r
   pub outside : Outside from (slot_at l from (l.steps + 1)) w w'
 
--- a whole record of kind k at place p where END is due, in n bytes, and the place after it
-unfoldable pub end_whole : ℕ → ℕ → ℕ → ℕ → Answer
-end_whole n p k next = pick (eqb k Kind.END) (pick (ltb next n) (Refused 26 next) Accepted) (Refused 13 p)
-
 -- after the third QED the answer is the verdict, whatever the refutations were
-pub record Ended (c : List ℕ) (p : ℕ) (r : Answer) : Type 0 where
+pub record Ended (c : List ℕ) (p : ℕ) (r : Result Answer Refusal) : Type 0 where
   pub ends : (l : Limits) (t : Sheet) (inv : Formula) (g : Refuting) (fuel : ℕ) → length (drop p c) < fuel
       → answer_of r ≡ judge_steps l t inv c g (walk steps_reader fuel (drop p c) p 3)

@@ -1,13 +1,16 @@
 -- A clause under construction: codes that come one by one, each kept once.
-use Rattle.std.specs.Prelude.{ℕ, ◌+◌, ◌*◌, ◌-◌, ◌≤◌, ◌<◌, min, ◌≡◌, Bool, true, false, ◌&&◌, ◌||◌, List, [], ◌∷◌, ◌++◌, length, get_or, ltb, eqb}
+use Rattle.std.specs.Prelude.{ℕ, ◌+◌, ◌*◌, ◌-◌, ◌≤◌, ◌<◌, min, ◌≡◌, Option, Some, None, Result, Ok, Err, Bool, true, false, ◌&&◌, ◌||◌, List, [], ◌∷◌, ◌++◌, length, get_or, ltb, eqb}
 use Rattle.base.specs.Pick.{pick}
 use Rattle.rules.specs.declared.Limits.{Limits}
 use Rattle.rules.specs.Record.{one_of}
 use Rattle.refutation.specs.Memory.{part, slot_at, Outside}
-use Rattle.refutation.specs.declared.Spot.{Spot}
-use Rattle.refutation.specs.declared.Spot.TheVariants.{At, Nowhere}
-use Rattle.refutation.specs.declared.Derived.{Derived}
-use Rattle.refutation.specs.declared.Derived.TheVariants.{Clause, Fault}
+use Rattle.rules.specs.declared.refusals.Fault.{Fault}
+use Rattle.rules.specs.declared.refusals.Fault.TheVariants.{NoPivot, Width, Steps}
+use Rattle.refutation.specs.declared.codes.Spot.{Spot}
+
+-- the codes at a spot
+abbrev pub codes : List ℕ → Spot → List ℕ
+codes w x = part w x.start x.count
 
 -- r is where derived clause number j has its slot, which lies within memory
 pub record Slotted (l : Limits) (w : List ℕ) (from j r : ℕ) : Type 0 where
@@ -15,12 +18,12 @@ pub record Slotted (l : Limits) (w : List ℕ) (from j r : ℕ) : Type 0 where
   pub fits : r + (l.width + 1) ≤ length w
 
 -- where the clause of number i stands, and how many places it has; numbers count from 1
-pub data Placed (l : Limits) (w : List ℕ) (n from m i : ℕ) : Spot → Type 0 where
-  in_base : {s k : ℕ} → 1 ≤ i → i - 1 < n → s ≡ 3 * (i - 1) → k ≡ 3 → Placed l w n from m i (At s k)
-  in_slot : {s k : ℕ} → 1 ≤ i → n ≤ i - 1 → i - 1 - n < m → s ≡ slot_at l from (i - 1 - n) + 1 → k ≡ get_or w (slot_at l from (i - 1 - n)) 0
-      → Placed l w n from m i (At s k)
-  zeroth : i ≡ 0 → Placed l w n from m i Nowhere
-  past : n + m < i → Placed l w n from m i Nowhere
+pub data Placed (l : Limits) (w : List ℕ) (n from m i : ℕ) : Option Spot → Type 0 where
+  in_base : {x : Spot} → 1 ≤ i → i - 1 < n → x.start ≡ 3 * (i - 1) → x.count ≡ 3 → Placed l w n from m i (Some x)
+  in_slot : {x : Spot} → 1 ≤ i → n ≤ i - 1 → i - 1 - n < m → x.start ≡ slot_at l from (i - 1 - n) + 1
+      → x.count ≡ get_or w (slot_at l from (i - 1 - n)) 0 → Placed l w n from m i (Some x)
+  zeroth : i ≡ 0 → Placed l w n from m i None
+  past : n + m < i → Placed l w n from m i None
 
 -- one code more, unless it is there
 unfoldable pub with : ℕ → List ℕ → List ℕ
@@ -51,15 +54,15 @@ pub record Grown (w : List ℕ) (a width k : ℕ) (f : List ℕ → List ℕ) (w
   pub upto : r ≤ width + 1
   pub outside : Outside a (a + width) w w'
 
--- a clause of count places from place s on lies below the one at place a
-pub record Apart (w : List ℕ) (a width k s count : ℕ) : Type 0 where
+-- a clause lies below the one at place a
+pub record Apart (w : List ℕ) (a width k : ℕ) (x : Spot) : Type 0 where
   pub space : Space w a width k
-  pub apart : s + count ≤ a
+  pub apart : x.start + x.count ≤ a
 
 -- two clauses lie below the one at place a, for which there is room; p and the code after it are numbers of the code's own
-pub record Both (w : List ℕ) (a width s count t size p : ℕ) : Type 0 where
-  pub first : s + count ≤ a
-  pub second : t + size ≤ a
+pub record Both (w : List ℕ) (a width : ℕ) (x y : Spot) (p : ℕ) : Type 0 where
+  pub first : x.start + x.count ≤ a
+  pub second : y.start + y.count ≤ a
   pub fits : a + width ≤ length w
   pub code : p < 131072
 
@@ -73,21 +76,21 @@ pub record United (w : List ℕ) (a width : ℕ) (xs w' : List ℕ) (r : ℕ) : 
   pub outside : Outside a (a + width) w w'
 
 -- the two clauses of a STEP lie below the slot at place a, which lies within memory
-pub record Pair (l : Limits) (w : List ℕ) (a s count t size : ℕ) : Type 0 where
-  pub first : s + count ≤ a
-  pub second : t + size ≤ a
+pub record Pair (l : Limits) (w : List ℕ) (a : ℕ) (x y : Spot) : Type 0 where
+  pub first : x.start + x.count ≤ a
+  pub second : y.start + y.count ≤ a
   pub fits : a + (l.width + 1) ≤ length w
   pub narrow : l.width < 65536
 
 -- where m steps came before: what becomes of the codes xs, and the slot at place a after it
-pub data Made (l : Limits) (m : ℕ) (w : List ℕ) (a : ℕ) (xs : List ℕ) : Derived → Type 0 where
-  over : l.width < length xs → Made l m w a xs (Fault 20)
-  late : length xs ≤ l.width → l.steps ≤ m → Made l m w a xs (Fault 21)
+pub data Made (l : Limits) (m : ℕ) (w : List ℕ) (a : ℕ) (xs : List ℕ) : Result Bool Fault → Type 0 where
+  over : l.width < length xs → Made l m w a xs (Err Width)
+  late : length xs ≤ l.width → l.steps ≤ m → Made l m w a xs (Err Steps)
   made : {b : Bool} → length xs ≤ l.width → m < l.steps → get_or w a 0 ≡ length xs → part w (a + 1) (length xs) ≡ xs → b ≡ eqb (length xs) 0
-      → Made l m w a xs (Clause b)
+      → Made l m w a xs (Ok b)
 
 -- the slot's own places may have changed
-pub record Making (l : Limits) (m : ℕ) (w : List ℕ) (a : ℕ) (xs w' : List ℕ) (r : Derived) : Type 0 where
+pub record Making (l : Limits) (m : ℕ) (w : List ℕ) (a : ℕ) (xs w' : List ℕ) (r : Result Bool Fault) : Type 0 where
   pub made : Made l m w' a xs r
   pub outside : Outside a (a + (l.width + 1)) w w'
 
@@ -95,6 +98,6 @@ pub record Making (l : Limits) (m : ℕ) (w : List ℕ) (a : ℕ) (xs w' : List 
 unfoldable pub pivots : List ℕ → List ℕ → ℕ → Bool
 pivots bs ds v = ltb 0 v && (one_of bs (2 * v) && one_of ds (2 * v + 1))
 
-pub data Tried (l : Limits) (m : ℕ) (w : List ℕ) (a : ℕ) (bs ds : List ℕ) (v : ℕ) (w' : List ℕ) : Derived → Type 0 where
-  missing : pivots bs ds v ≡ false → Outside a (a + (l.width + 1)) w w' → Tried l m w a bs ds v w' (Fault 19)
-  tried : {r : Derived} → pivots bs ds v ≡ true → Making l m w a (union bs ds (2 * v)) w' r → Tried l m w a bs ds v w' r
+pub data Tried (l : Limits) (m : ℕ) (w : List ℕ) (a : ℕ) (bs ds : List ℕ) (v : ℕ) (w' : List ℕ) : Result Bool Fault → Type 0 where
+  missing : pivots bs ds v ≡ false → Outside a (a + (l.width + 1)) w w' → Tried l m w a bs ds v w' (Err NoPivot)
+  tried : {r : Result Bool Fault} → pivots bs ds v ≡ true → Making l m w a (union bs ds (2 * v)) w' r → Tried l m w a bs ds v w' r

@@ -5,232 +5,171 @@ mod codes;
 mod marks;
 
 ghost use Rattle.std.specs.Prelude.{◌≡◌, ◌≤◌, ◌<◌, length};
-ghost use Rattle.refutation.specs.Memory.{part, Room, Fit};
-ghost use Rattle.refutation.specs.Making.{Slotted, Placed, Pair, union, Making, Tried};
-ghost use Rattle.refutation.specs.Steps.{Stepped};
-ghost use Rattle.refutation.specs.Judging.{Judged, end_whole, Ended};
+ghost use Rattle.refutation.specs.Memory.{Room, Fit};
+ghost use Rattle.refutation.specs.Making.{codes, Slotted, Placed, Pair, union, Making, Tried};
+ghost use Rattle.refutation.specs.Steps.{step_of, Stepped};
+ghost use Rattle.refutation.specs.Judging.{Judged, Ended};
 
-use codes::{has, unite, wide};
+use codes::{Site, Spot, has, unite};
 use marks::{Mark, mark_at};
-use records::Found;
-use rules::{Answer, Limits};
+use records::{Common, Kind};
+use rules::{Answer, Fault, Limits, Refusal};
 
-// What a STEP does: it derives a clause, the empty one or another, or it is refused with a number.
-#[derive(Clone, Copy)]
-pub enum Derived {
-    Clause { empty: bool },
-    Fault(u8),
+// Where the clauses are: base ones, three places each, from place 0 on, and slots of derived ones from place `from` on.
+#[derive(Clone, Copy, Debug, PartialEq, Eq)]
+pub struct Clauses {
+    pub base: usize,
+    pub from: usize,
 }
 
-// What a refutation comes to: the place after its QED, or a refusal.
-#[derive(Clone, Copy)]
-pub enum Refuted {
-    Done { at: usize },
-    Fault { no: u8, place: usize },
-}
-
-// Where a clause's places are.
-#[derive(Clone, Copy)]
-enum Spot {
-    At { start: usize, count: usize },
-    Nowhere,
+// The two clauses that a STEP names, and its pivot.
+#[derive(Clone, Copy, Debug, PartialEq, Eq)]
+pub struct Numbers {
+    pub first: u16,
+    pub second: u16,
+    pub pivot: u16,
 }
 
 // Where derived clause number j, counted from 0, has its slot: its size, then its literals.
-fn slot(l: Limits, work: &[u16], n: usize, from: usize, j: usize) -> usize
-    requires { Room l work.now n from × (j ≤ l.steps) }
-    ensures { Slotted l work.now from j result }
+fn slot(l: Limits, work: &[u16], b: Clauses, j: usize) -> usize
+    requires { Room l work.now b.base b.from × (j ≤ l.steps) }
+    ensures { Slotted l work.now b.from j result }
 {
-    let width = l.width;
-    from + j * (width + 1)
+    b.from + j * (l.width + 1)
 }
 
 // Where the clause of a number stands; numbers count from 1, base clauses first.
-fn locate(l: Limits, work: &[u16], n: usize, from: usize, m: usize, number: u16) -> Spot
-    requires { Fit l work.now n from m }
-    ensures { Placed l work.now n from m number result }
+#[tactic(auto, using(crate::proofs::SlotLaws::locate_cases))]
+fn locate(l: Limits, work: &[u16], b: Clauses, m: usize, number: u16) -> Option<Spot>
+    requires { Fit l work.now b.base b.from m }
+    ensures { Placed l work.now b.base b.from m number result }
 {
     if number == 0 {
-        return Spot::Nowhere;
+        return None;
     }
-    let i = number as usize - 1;
-    if i < n {
-        return Spot::At {
+    let i = usize::from(number) - 1;
+    if i < b.base {
+        return Some(Spot {
             start: 3 * i,
             count: 3,
-        };
+        });
     }
-    let j = i - n;
+    let j = i - b.base;
     if m <= j {
-        return Spot::Nowhere;
+        return None;
     }
-    let at = slot(l, work, n, from, j);
-    let count = wide(work[at]);
-    Spot::At {
+    let at = slot(l, work, b, j);
+    Some(Spot {
         start: at + 1,
-        count: count,
-    }
+        count: usize::from(work[at]),
+    })
 }
 
-// The resolvent of two clauses on the code `p`, in the slot at `at`, where m steps came before: 20, 21.
+// The resolvent of two clauses on the code `p`, in the slot at `at`, where m steps came before.
 fn resolve(
     l: Limits,
     work: &mut [u16],
     at: usize,
     m: usize,
-    s: usize,
-    count: usize,
-    t: usize,
-    size: usize,
+    first: Spot,
+    second: Spot,
     p: usize,
-) -> Derived
-    requires { Pair l work.old at s count t size × (p < 131072) }
-    ensures { Making l m work.old at (union (part work.old s count) (part work.old t size) p) work.new result }
+) -> Result<bool, Fault>
+    requires { Pair l work.old at first second × (p < 131072) }
+    ensures { Making l m work.old at (union (codes work.old first) (codes work.old second) p) work.new result }
 {
-    let width = l.width;
-    let r = unite(work, at + 1, width, s, count, t, size, p);
-    if width < r {
-        return Derived::Fault(20);
+    let site = Site {
+        at: at + 1,
+        width: l.width,
+    };
+    let r = unite(work, site, first, second, p);
+    if l.width < r {
+        return Err(Fault::Width);
     }
-    let steps = l.steps;
-    if steps <= m {
-        return Derived::Fault(21);
+    if l.steps <= m {
+        return Err(Fault::Steps);
     }
     work[at] = r as u16;
-    Derived::Clause { empty: r == 0 }
+    Ok(r == 0)
 }
 
-// The resolvent of two clauses, where the pivot stands plain in the first and negated in the second, else 19.
+// The resolvent of two clauses, where the pivot stands plain in the first and negated in the second.
+#[tactic(auto, using(crate::proofs::ResolveLaws::pivoted_cases))]
 fn pivoted(
     l: Limits,
     work: &mut [u16],
     at: usize,
     m: usize,
-    s: usize,
-    count: usize,
-    t: usize,
-    size: usize,
+    first: Spot,
+    second: Spot,
     pivot: u16,
-) -> Derived
-    requires { Pair l work.old at s count t size }
-    ensures { Tried l m work.old at (part work.old s count) (part work.old t size) pivot work.new result }
+) -> Result<bool, Fault>
+    requires { Pair l work.old at first second }
+    ensures { Tried l m work.old at (codes work.old first) (codes work.old second) pivot work.new result }
 {
-    if pivot == 0 {
-        return Derived::Fault(19);
+    let p = 2 * usize::from(pivot);
+    if pivot == 0 || !has(work, first, p) || !has(work, second, p + 1) {
+        return Err(Fault::NoPivot);
     }
-    let p = 2 * wide(pivot);
-    if has(work, s, count, p) {
-        if has(work, t, size, p + 1) {
-            return resolve(l, work, at, m, s, count, t, size, p);
-        }
-        return Derived::Fault(19);
-    }
-    Derived::Fault(19)
+    resolve(l, work, at, m, first, second, p)
 }
 
-// STEP, where m steps came before it in this refutation: 18, 19, 20, 21.
-pub fn step(
-    l: Limits,
-    work: &mut [u16],
-    n: usize,
-    from: usize,
-    m: usize,
-    first: u16,
-    second: u16,
-    pivot: u16,
-) -> Derived
-    requires { Fit l work.old n from m }
-    ensures { Stepped l work.old n from m (record { first = first; second = second; pivot = pivot }) work.new result }
+// A STEP, where m steps came before it in this refutation: whether it derives the empty clause.
+pub fn step(l: Limits, work: &mut [u16], b: Clauses, m: usize, q: Numbers) -> Result<bool, Fault>
+    requires { Fit l work.old b.base b.from m }
+    ensures { Stepped l work.old b.base b.from m (step_of q) work.new result }
 {
-    let a = locate(l, work, n, from, m, first);
-    let Spot::At { start: s, count } = a else {
-        return Derived::Fault(18);
+    let Some(first) = locate(l, work, b, m, q.first) else {
+        return Err(Fault::NoClause);
     };
-    let b = locate(l, work, n, from, m, second);
-    let Spot::At {
-        start: t,
-        count: size,
-    } = b
-    else {
-        return Derived::Fault(18);
+    let Some(second) = locate(l, work, b, m, q.second) else {
+        return Err(Fault::NoClause);
     };
-    let at = slot(l, work, n, from, m);
-    pivoted(l, work, at, m, s, count, t, size, pivot)
+    let at = slot(l, work, b, m);
+    pivoted(l, work, at, m, first, second, q.pivot)
 }
 
-// The STEPs of a refutation and its QED, from place `at` of a certificate on.
+// The STEPs of a refutation and its QED, from place `at` of a certificate on: the place after the QED.
 pub fn steps_until_qed(
     l: Limits,
     c: &[u8],
     at: usize,
     work: &mut [u16],
-    n: usize,
-    from: usize,
-) -> Refuted
-    requires { Room l work.old n from }
-    ensures { Judged l c.now at work.old n from work.new result }
+    b: Clauses,
+) -> Result<usize, Refusal>
+    requires { Room l work.old b.base b.from }
+    ensures { Judged l c.now at work.old b.base b.from work.new result }
 {
     let mut m: usize = 0;
     let mut emptied = false;
     let mut p = at;
     loop {
-        match mark_at(c, p) {
-            Mark::Bad(no) => {
-                return Refuted::Fault { no: no, place: p };
+        let marked = match mark_at(c, p) {
+            Ok(marked) => marked,
+            Err(fault) => return Err(fault.at(p)),
+        };
+        let Mark::Step(q) = marked.mark else {
+            if emptied {
+                return Ok(marked.next);
             }
-            Mark::Qed { next } => {
-                if emptied {
-                    return Refuted::Done { at: next };
-                }
-                return Refuted::Fault { no: 22, place: p };
-            }
-            Mark::Step {
-                first,
-                second,
-                pivot,
-                next,
-            } => {
-                match step(l, work, n, from, m, first, second, pivot) {
-                    Derived::Fault(no) => {
-                        return Refuted::Fault { no: no, place: p };
-                    }
-                    Derived::Clause { empty } => {
-                        emptied = empty;
-                        m += 1;
-                        p = next;
-                    }
-                }
-            }
-        }
-    }
-}
-
-// A whole record where END is due, and the place after it.
-fn end_whole(c: &[u8], at: usize, kind: u8, next: usize) -> Answer
-    ensures { result ≡ end_whole (length c.now) at kind next }
-{
-    match kind {
-        0x2F => {
-            if next < c.len() {
-                return Answer::Refused {
-                    no: 26,
-                    place: next,
-                };
-            }
-            Answer::Accepted
-        }
-        _ => Answer::Refused { no: 13, place: at },
+            return Err(Fault::NotEmpty.at(p));
+        };
+        emptied = match step(l, work, b, m, q) {
+            Ok(empty) => empty,
+            Err(fault) => return Err(fault.at(p)),
+        };
+        m += 1;
+        p = marked.next;
     }
 }
 
 // The end of a certificate, after its third QED at place `at`.
-pub fn end_at(c: &[u8], at: usize) -> Answer
+pub fn end_at(c: &[u8], at: usize) -> Result<Answer, Refusal>
     ensures { Ended c.now at result }
 {
-    match records::record_at(c, at) {
-        Found::Nothing => Answer::Refused { no: 12, place: at },
-        Found::NoKind => Answer::Refused { no: 13, place: at },
-        Found::Cut { kind: _ } => Answer::Refused { no: 13, place: at },
-        Found::Whole { kind, next } => end_whole(c, at, kind, next),
+    match records::due_at(c, at, Common::CERTIFICATE, |kind| kind == Kind::End) {
+        Ok(end) if end.next < c.len() => Err(Fault::AfterCertificate.at(end.next)),
+        Ok(_) => Ok(Answer::Accepted),
+        Err(fault) => Err(fault.at(at)),
     }
 }

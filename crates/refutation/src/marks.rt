@@ -1,59 +1,42 @@
 // The records of a refutation, at any offset of a certificate.
-ghost use Rattle.std.specs.Prelude.{◌≡◌, drop};
-ghost use Rattle.refutation.specs.Judging.{mark_whole, mark_cut, mark_at};
+ghost use Rattle.std.specs.Prelude.{◌≡◌, []};
+ghost use Rattle.refutation.specs.Judging.{MarkAt};
 
-use records::Found;
+use super::Numbers;
+use records::{Common, Kind};
+use rules::Fault;
 
-// A record where STEP and QED are allowed, with the place after it, or a refusal's number.
-#[derive(Clone, Copy)]
+// A record where STEP and QED are allowed.
+#[derive(Clone, Copy, Debug, PartialEq, Eq)]
 pub(crate) enum Mark {
-    Step {
-        first: u16,
-        second: u16,
-        pivot: u16,
-        next: usize,
-    },
-    Qed {
-        next: usize,
-    },
-    Bad(u8),
+    Step(Numbers),
+    Qed,
 }
 
-// A whole record.
-pub(crate) fn mark_whole(c: &[u8], at: usize, kind: u8, next: usize) -> Mark
-    ensures { result ≡ mark_whole (drop at c.now) kind next }
-{
-    match kind {
-        0x40 => Mark::Step {
-            first: records::number_at(c, at, 1),
-            second: records::number_at(c, at, 3),
-            pivot: records::number_at(c, at, 5),
-            next: next,
-        },
-        0x41 => Mark::Qed { next: next },
-        _ => Mark::Bad(13),
-    }
-}
-
-// A record that is cut.
-pub(crate) fn mark_cut(kind: u8) -> Mark
-    ensures { result ≡ mark_cut kind }
-{
-    match kind {
-        0x40 => Mark::Bad(12),
-        0x41 => Mark::Bad(12),
-        _ => Mark::Bad(13),
-    }
+// A mark, and the place after its record.
+#[derive(Clone, Copy, Debug, PartialEq, Eq)]
+pub(crate) struct Marked {
+    pub(crate) mark: Mark,
+    pub(crate) next: usize,
 }
 
 // What stands at an offset.
-pub(crate) fn mark_at(c: &[u8], at: usize) -> Mark
-    ensures { result ≡ mark_at c.now at }
+pub(crate) fn mark_at(c: &[u8], at: usize) -> Result<Marked, Fault>
+    ensures { MarkAt c.now at result }
 {
-    match records::record_at(c, at) {
-        Found::Nothing => Mark::Bad(12),
-        Found::NoKind => Mark::Bad(13),
-        Found::Cut { kind } => mark_cut(kind),
-        Found::Whole { kind, next } => mark_whole(c, at, kind, next),
-    }
+    let record = records::due_at(c, at, Common::CERTIFICATE, |kind| {
+        matches!(kind, Kind::Step | Kind::Qed)
+    })?;
+    let mark = match record.kind {
+        Kind::Qed => Mark::Qed,
+        _ => Mark::Step(Numbers {
+            first: records::number_at(c, at, 1),
+            second: records::number_at(c, at, 3),
+            pivot: records::number_at(c, at, 5),
+        }),
+    };
+    Ok(Marked {
+        mark,
+        next: record.next,
+    })
 }

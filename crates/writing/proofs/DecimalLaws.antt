@@ -64,6 +64,9 @@ unfolding decimal
 decimal_more n h =
     digits_more n n h ∙ ap (λ (x : List ℕ). last x n) (enough_fuel (suc (n / 10)) (n / 10) (omega arith) n (omega arith))
 
+pub decimal_longer : (n : ℕ) → 10 ≤ n → length (decimal n) ≡ length (decimal (n / 10)) + 1
+decimal_longer n h = ap length (decimal_more n h) ∙ length-append (decimal (n / 10)) (digit (n % 10) ∷ [])
+
 -- a number below a power of ten has as many digits at most
 pub few_digits : (n k : ℕ) → n < 10 ^ suc k → length (decimal n) ≤ suc k
 few_digits = every (λ n ds. (k : ℕ) → n < 10 ^ suc k → length ds ≤ suc k) one more

@@ -19,24 +19,22 @@ pub fn put_text(out: &mut [u8], at: usize, text: &[u8]) -> usize
     requires { at + length text.now ≤ length out.old }
     ensures { Put out.old out.new at text.now result }
 {
-    let mut i: usize = 0;
-    while i < text.len() {
-        out[at + i] = text[i];
-        i += 1;
-    }
-    at + i
+    let end = at + text.len();
+    out[at..end].copy_from_slice(text);
+    end
 }
 
 // A number's digits: those of a tenth, then the last.
+#[tactic(auto, using(crate::proofs::DecimalLaws::decimal_one, crate::proofs::DecimalLaws::decimal_longer))]
 pub fn put_number(out: &mut [u8], at: usize, n: usize) -> usize
     requires { at + length (decimal n) ≤ length out.old }
     ensures { Put out.old out.new at (decimal n) result }
 {
     if n < 10 {
-        return put_byte(out, at, 48 + n as u8);
+        return put_byte(out, at, b'0' + n as u8);
     }
     let next = put_number(out, at, n / 10);
-    put_byte(out, next, 48 + (n % 10) as u8)
+    put_byte(out, next, b'0' + (n % 10) as u8)
 }
 
 // A word and a number.
@@ -55,10 +53,11 @@ pub fn put_pair(out: &mut [u8], first: &[u8], n: usize, second: &[u8], m: usize)
 {
     let next = put_numbered(out, 0, first, n);
     let end = put_numbered(out, next, second, m);
-    put_byte(out, end, 10)
+    put_byte(out, end, b'\n')
 }
 
 // Nothing to run: a number's digits read back as the number.
+#[tactic(auto, using(crate::proofs::DecimalLaws::read_back))]
 pub fn digits_read_back()
     ensures { ReadBack }
 {}

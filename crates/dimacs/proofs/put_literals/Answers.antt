@@ -1,15 +1,11 @@
-use Rattle.std.proofs.Common.{rules}
-use Rattle.dimacs.proofs.ClauseLaws.{put_literals_cases}
+use Rattle.std.proofs.Common.{arith}
+use Rattle.solving.specs.Places.{unplace}
+use Rattle.writing.proofs.PutLaws.{put_then}
+use Rattle.dimacs.proofs.ClauseLaws.{literal_short, three}
 use Rattle.dimacs.proofs.put_literals.Goals as goal
 
-pub put_literal-a-requires : goal.put_literal-a-requires
-put_literal-a-requires c = search (rules, put_literals_cases)
-
-pub put_literal-b-requires : goal.put_literal-b-requires
-put_literal-b-requires c = search (rules, put_literals_cases)
-
-pub put_literal-requires : goal.put_literal-requires
-put_literal-requires c = search (rules, put_literals_cases)
-
 pub returns : goal.returns
-returns c = search (rules, put_literals_cases)
+returns c =
+    let short = literal_short c.args.x c.ranges.x.fits in
+    let last_two = put_then (omega arith) c.put_literal-b.ensures c.put_literal.ensures in
+    rw (three (unplace c.args.x) (unplace c.args.y) (unplace c.args.z)) (put_then (omega arith) c.put_literal-a.ensures last_two)

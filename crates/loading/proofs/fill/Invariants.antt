@@ -1,10 +1,9 @@
-use Prim.Native.Nat.{◌-◌}
+use Prim.Native.Nat.{◌-◌, ◌≤◌}
 use lib.ListN.{length}
-use Rattle.loading.proofs.FillLaws.{Filling}
 use Rattle.loading.proofs.fill.Given as goal
 
 abbrev pub invariant-loop-done : goal.invariant-loop-done
-invariant-loop-done g l = Filling l.initial.buf l.buf l.done
+invariant-loop-done g l = l.done ≤ length l.buf
 
 abbrev pub decreases-loop-done : goal.decreases-loop-done
 decreases-loop-done g l = length l.buf - l.done

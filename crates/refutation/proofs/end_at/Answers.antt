@@ -1,15 +1,12 @@
-use Rattle.std.proofs.Common.{rules}
-use Rattle.refutation.proofs.EndLaws.{end_at_cases}
+use Rattle.std.proofs.Common.{rules, arith, [], ◌∷◌}
+use Rattle.refutation.proofs.EndLaws.{end_refused, end_late, end_right}
 use Rattle.refutation.proofs.end_at.Goals as goal
 
-pub returns-in-Nothing : goal.returns-in-Nothing
-returns-in-Nothing c = search (rules, end_at_cases)
+pub returns-in-Ok : goal.returns-in-Ok
+returns-in-Ok c = rw c.at.ensures (end_late _ _ _ (c.in-Ok.ensures.by (0x2F ∷ []) (λ k b h. search rules)) (omega arith))
 
-pub returns-in-NoKind : goal.returns-in-NoKind
-returns-in-NoKind c = search (rules, end_at_cases)
+pub returns-in-Ok-2 : goal.returns-in-Ok-2
+returns-in-Ok-2 c = end_right _ _ _ (c.in-Ok.ensures.by (0x2F ∷ []) (λ k b h. search rules)) (omega arith)
 
-pub returns-in-Cut : goal.returns-in-Cut
-returns-in-Cut c = search (rules, end_at_cases)
-
-pub returns-in-Whole : goal.returns-in-Whole
-returns-in-Whole c = search (rules, end_at_cases)
+pub returns-in-Err : goal.returns-in-Err
+returns-in-Err c = rw c.at-in-Err.ensures (end_refused _ _ _ (c.in-Err.ensures.by (0x2F ∷ []) (λ k b h. search rules)))

@@ -1,60 +1,24 @@
-use Rattle.std.proofs.Common.{rules}
-use Rattle.refutation.proofs.LoopLaws.{steps_cases}
+use Rattle.refutation.proofs.LoopLaws.{begins, ends_bad, ends_qed_wrong, ends_qed_right, ends_step, step_on}
+use Rattle.refutation.proofs.JudgeLaws.{nearer}
 use Rattle.refutation.proofs.steps_until_qed.Goals as goal
 
-pub loop-no-init : goal.loop-no-init
-loop-no-init c = search (rules, steps_cases)
+pub loop-marked-init : goal.loop-marked-init
+loop-marked-init c = begins _ _ _ _ _ _ c.requires
 
-pub mark_at-requires : goal.mark_at-requires
-mark_at-requires c = search (rules, steps_cases)
-
-pub enum_known-no : goal.enum_known-no
-enum_known-no c = search (rules, steps_cases)
-
-pub shape_of-work-in-Bad : goal.shape_of-work-in-Bad
-shape_of-work-in-Bad c = search (rules, steps_cases)
-
-pub returns-in-Bad : goal.returns-in-Bad
-returns-in-Bad c = search (rules, steps_cases)
-
-pub enum_known-next : goal.enum_known-next
-enum_known-next c = search (rules, steps_cases)
-
-pub shape_of-work-then-emptied : goal.shape_of-work-then-emptied
-shape_of-work-then-emptied c = search (rules, steps_cases)
+pub returns-in-Err : goal.returns-in-Err
+returns-in-Err c = rw c.at.ensures (ends_bad _ _ _ _ _ _ _ _ _ _ c.loop-marked.invariant _ c.in-Err.ensures)
 
 pub returns-then-emptied : goal.returns-then-emptied
-returns-then-emptied c = search (rules, steps_cases)
+returns-then-emptied c = ends_qed_right _ _ _ _ _ _ _ _ _ _ c.loop-marked.invariant _ c.in-Ok.ensures c.in_default.is c.if-emptied.true
 
-pub shape_of-work-in-Qed : goal.shape_of-work-in-Qed
-shape_of-work-in-Qed c = search (rules, steps_cases)
+pub returns-in_default : goal.returns-in_default
+returns-in_default c = rw c.at-in_default.ensures (ends_qed_wrong _ _ _ _ _ _ _ _ _ _ c.loop-marked.invariant _ c.in-Ok.ensures c.in_default.is c.if-emptied.false)
 
-pub returns-in-Qed : goal.returns-in-Qed
-returns-in-Qed c = search (rules, steps_cases)
+pub returns-in-Err-step : goal.returns-in-Err-step
+returns-in-Err-step c = rw c.at-in-Err-step.ensures (ends_step _ _ _ _ _ _ _ _ _ _ c.loop-marked.invariant _ c.in-Ok.ensures _ c.in-Step.is _ _ c.in-Err-step.ensures)
 
-pub enum_known-first : goal.enum_known-first
-enum_known-first c = search (rules, steps_cases)
+pub loop-marked-preserved : goal.loop-marked-preserved
+loop-marked-preserved c = step_on _ _ _ _ _ _ _ _ _ _ c.loop-marked.invariant _ c.in-Ok.ensures _ c.in-Step.is _ _ c.in-Ok-step.ensures c.step.auto.work
 
-pub step-requires : goal.step-requires
-step-requires c = search (rules, steps_cases)
-
-pub enum_known-no-in-Fault-1 : goal.enum_known-no-in-Fault-1
-enum_known-no-in-Fault-1 c = search (rules, steps_cases)
-
-pub shape_of-work-in-Fault : goal.shape_of-work-in-Fault
-shape_of-work-in-Fault c = search (rules, steps_cases)
-
-pub returns-in-Fault : goal.returns-in-Fault
-returns-in-Fault c = search (rules, steps_cases)
-
-pub enum_known-empty : goal.enum_known-empty
-enum_known-empty c = search (rules, steps_cases)
-
-pub overflow_add-m : goal.overflow_add-m
-overflow_add-m c = search (rules, steps_cases)
-
-pub loop-no-smaller : goal.loop-no-smaller
-loop-no-smaller c = search (rules, steps_cases)
-
-pub loop-no-preserved : goal.loop-no-preserved
-loop-no-preserved c = search (rules, steps_cases)
+pub loop-marked-smaller : goal.loop-marked-smaller
+loop-marked-smaller c = nearer _ _ _ c.in-Ok.ensures.next

@@ -1,15 +1,15 @@
 use Rattle.std.proofs.Common.{rules}
 use Rattle.refutation.proofs.AddLaws.{add_cases}
+use Rattle.refutation.proofs.codes.add.Goals.{then-site-k-via-then-site-k, then-site-k-via-else-site-k+then-has, then-k-site, else-k-site}
 use Rattle.refutation.proofs.codes.add.Goals as goal
 
-pub returns-then-width-k : goal.returns-then-width-k
-returns-then-width-k c = search (rules, add_cases)
-
-pub returns-then-has : goal.returns-then-has
-returns-then-has c = search (rules, add_cases)
-
-pub returns-then-k-width : goal.returns-then-k-width
-returns-then-k-width c = search (rules, add_cases)
+pub returns-then-site-k : goal.returns-then-site-k
+returns-then-site-k c =
+    elim c.then-site-k.branch [
+      | then-site-k-via-then-site-k w ↦ search (rules, add_cases)
+      | then-site-k-via-else-site-k+then-has w ↦ search (rules, add_cases)
+    ]
 
 pub returns : goal.returns
-returns c = search (rules, add_cases)
+returns c =
+    elim c.if-k-site.branch [ then-k-site w ↦ rw w.work-is (search (rules, add_cases)) | else-k-site w ↦ rw w.work-is (search (rules, add_cases)) ]
