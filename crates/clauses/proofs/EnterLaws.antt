@@ -4,7 +4,7 @@ use Prim.Native.Nat.{ℕ, ◌+◌, ◌-◌, ◌≤◌, ◌<◌}
 use mathlib.Core.Path.{◌≡◌, refl}
 use mathlib.Core.List.{List}
 use native.Mathlib.Omega.{arith}
-use lib.ListN.{length, get_or, set}
+use lib.ListN.{get_or, set, length-set}
 use Rattle.std.specs.Prelude.{Some, None}
 use Rattle.formulas.specs.declared.Part.{Part}
 use Rattle.formulas.specs.declared.Part.TheVariants.{Input, Coil, Constant, Not, And, Or, Closing}
@@ -12,7 +12,7 @@ use Rattle.clauses.specs.declared.gates.Gate.{Gate}
 use Rattle.clauses.specs.declared.gates.Gate.TheVariants.{Same, Fixed, Inverse, Both, Either}
 use Rattle.clauses.specs.Emits.{Emitted}
 use Rattle.clauses.specs.Gates.{gate_clauses, values, Narrow, Definable}
-use Rattle.clauses.specs.Stack.{stk, step, vars_of, part_clauses, takes, gate_of, Ready, Reaches, Reached, Enterable, Entered}
+use Rattle.clauses.specs.Stack.{stk, vars_of, part_clauses, takes, gate_of, Ready, Reaches, Reached, Enterable, Entered}
 use Rattle.clauses.proofs.StackLaws.{last, before_last, put}
 
 -- what the record says of its variable has its clauses, and takes its values
@@ -67,9 +67,9 @@ told Or map base g stack depth gate e =
 told Closing map base g stack depth gate e = cc
 
 module _ (p : Part) (map : List ℕ) (base g : ℕ) (stack : List ℕ) (depth n : ℕ) (q : Enterable p map base g stack depth n) where
-  pub reached : Reached p map base stack depth
+  pub reached : Reached p map base depth
   unfolding takes
-  reached = record { reaches = q.reaches; enough = enough p q; within = q.within }
+  reached = record { reaches = q.reaches; enough = enough p q; within = omega (arith, q.within, q.tall) }
     where
       enough : (x : Part) → Enterable x map base g stack depth n → takes x ≤ depth
       enough (Input j) y = omega arith
@@ -81,9 +81,9 @@ module _ (p : Part) (map : List ℕ) (base g : ℕ) (stack : List ℕ) (depth n 
       enough Closing y = omega arith
 
   pub entered_closing : (out : List ℕ) → None ≡ gate_of (vars_of map base) p (stk stack depth)
-      → Entered p map base g stack depth out n stack out None
+      → Entered p map base g stack depth out n stack depth out None
   unfolding gate_of
-  entered_closing out e = record { on = λ z. absurd (z (closes p e)); closed = λ z. record { ends = refl; same = refl } }
+  entered_closing out e = record { on = λ z. absurd (z (closes p e)); closed = λ z. record { ends = refl; same = refl }; tall = refl }
     where
       closes : (x : Part) → None ≡ gate_of (vars_of map base) x (stk stack depth) → x ≡ Closing
       closes (Input j) y = cc
@@ -112,17 +112,16 @@ module _ (p : Part) (map : List ℕ) (base g : ℕ) (stack : List ℕ) (depth n 
       pub taken : k ≤ depth
       taken = omega (arith, h, t.takes_is, ready.enough)
 
-      pub taken_room : depth - k < length stack
-      taken_room = omega (arith, h, t.takes_is, ready.room)
+      pub taken_room : depth - k < 32
+      taken_room = omega (arith, h, t.takes_is, ready.room, q.tall)
 
       pub entered : (out out' : List ℕ) (m : ℕ) → Emitted out n (gate_clauses g gate) out' m
-          → Entered p map base g stack depth out n (set stack (depth - k) g) out' (Some (step (depth - k + 1) m))
+          → Entered p map base g stack depth out n (set stack (depth - k) g) (depth - k + 1) out' (Some m)
       entered out out' m d =
           let z : k ≡ takes p = omega (arith, h, t.takes_is) in
           let c = rw t.clauses_are at d in
           record {
             on = λ x. rw z (put (takes p) (part_clauses (vars_of map base) g p (stk stack depth)) g stack depth out n ready out' m c);
             closed = λ x. absurd (t.opens x);
+            tall = length-set stack (depth - k) g;
           }
-
-pub ruleset enter_cases = (reached, entered_closing, definable, taken, taken_room, entered)

@@ -13,7 +13,7 @@ use borrow.Author.Tests.{eqb-true, eqb-false}
 use Rattle.std.specs.Prelude.{Some}
 use Rattle.rules.specs.Clauses.{Clause}
 use Rattle.clauses.specs.Emits.{Emitted}
-use Rattle.clauses.specs.Stack.{stk, step, Ready, Put}
+use Rattle.clauses.specs.Stack.{stk, Ready, Put}
 
 pub stk_length : (w : List ℕ) (d : ℕ) → length (stk w d) ≡ d
 unfolding stk
@@ -67,9 +67,10 @@ fits_set w d i v h k f l j m = go (eqb j i) refl
 
 -- g takes the place of the k values
 pub put : (k : ℕ) (cs : List Clause) (g : ℕ) (stack : List ℕ) (depth : ℕ) (out : List ℕ) (n : ℕ) → Ready k g stack depth n → (out' : List ℕ) (m : ℕ)
-    → Emitted out n cs out' m → Put k cs g stack depth out n (set stack (depth - k) g) out' (Some (step (depth - k + 1) m))
+    → Emitted out n cs out' m → Put k cs g stack depth out n (set stack (depth - k) g) (depth - k + 1) out' (Some m)
 put k cs g stack depth out n q out' m e = record {
-  goes_on = ap (λ (x : ℕ). Some (step (depth - k + 1) x)) e.counted;
+  goes_on = ap Some e.counted;
+  height = refl;
   wrote = e.wrote;
   held = rw (stk_drop stack depth k q.enough) (stk_push stack (depth - k) g q.room);
   small = fits_set stack depth (depth - k) g q.room q.g_fits q.small (omega arith);

@@ -17,7 +17,7 @@ pub record Numbered (map : List ℕ) : Type 0 where
   pub few : length map < 32768
   pub at : (c : ℕ) → c < length map → get_or map c 0 ≡ 1 + c
 
--- limits within which a set's own places are enough, two maps of 256 coils and a stack of 32, and every literal fits 16 bits
+-- limits within which a set's own places are enough, two maps of 256 coils and a of 32, and every literal fits 16 bits
 pub record Slight (l : Limits) : Type 0 where
   pub coils_fit : l.coils ≤ 256
   pub depth_fits : l.depth ≤ 32
@@ -44,11 +44,10 @@ pub record SetThere (s c : List ℕ) (h : Layout) : Type 0 where
   pub rest : List ℕ
   pub given : Given limits s c h sheet invariant rest
 
--- both maps have the variables before the scan, and the stack is as high as the limits allow
-pub record Scratch (before after stack : List ℕ) : Type 0 where
+-- both maps have room for every coil, and the variables before the scan
+pub record Scratch (before after : List ℕ) : Type 0 where
   pub before_wide : 256 ≤ length before
   pub after_wide : 256 ≤ length after
-  pub deep : 32 ≤ length stack
   pub before_numbered : Numbered before
   pub after_numbered : Numbered after
 

@@ -3,7 +3,6 @@ use Rattle.std.specs.Prelude.{ℕ, zero, suc, ◌+◌, ◌-◌, ◌≤◌, ◌<�
 use Rattle.rules.specs.Clauses.{Vars, Clause, contact_clauses, not_clauses, and_clauses, or_clauses}
 use Rattle.formulas.specs.declared.Part.{Part}
 use Rattle.formulas.specs.declared.Part.TheVariants.{Input, Coil, Constant, Not, And, Or, Closing}
-use Rattle.clauses.specs.declared.formula.Step.{Step}
 use Rattle.clauses.specs.declared.gates.Gate.{Gate}
 use Rattle.clauses.specs.declared.gates.Gate.TheVariants.{Same, Fixed, Inverse, Both, Either}
 use Rattle.clauses.specs.Emits.{emits, signed}
@@ -60,13 +59,10 @@ pub record Ready (k g : ℕ) (stack : List ℕ) (depth n : ℕ) : Type 0 where
   pub within : depth ≤ length stack
   pub small : (j : ℕ) → j < depth → get_or stack j 0 < 32768
 
--- the height of the stack and the number of the next clause, in the code
-abbrev pub step : ℕ → ℕ → Step
-step d m = record { depth = d; n = m }
-
 -- it wrote the clauses cs, and put g in the place of the k values
-pub record Put (k : ℕ) (cs : List Clause) (g : ℕ) (stack : List ℕ) (depth : ℕ) (out : List ℕ) (n : ℕ) (stack' out' : List ℕ) (r : Option Step) : Type 0 where
-  pub goes_on : r ≡ Some (step (depth - k + 1) (n + length cs))
+pub record Put (k : ℕ) (cs : List Clause) (g : ℕ) (stack : List ℕ) (depth : ℕ) (out : List ℕ) (n : ℕ) (stack' : List ℕ) (depth' : ℕ) (out' : List ℕ) (r : Option ℕ) : Type 0 where
+  pub goes_on : r ≡ Some (n + length cs)
+  pub height : depth' ≡ depth - k + 1
   pub wrote : out' ≡ emits out n cs
   pub held : stk stack' (depth - k + 1) ≡ g ∷ drop k (stk stack depth)
   pub small : (j : ℕ) → j < depth - k + 1 → get_or stack' j 0 < 32768
@@ -82,22 +78,24 @@ Reaches Or map base = Unit {0}
 Reaches Closing map base = Unit {0}
 
 -- and the stack has the record's operands
-pub record Reached (p : Part) (map : List ℕ) (base : ℕ) (stack : List ℕ) (depth : ℕ) : Type 0 where
+pub record Reached (p : Part) (map : List ℕ) (base depth : ℕ) : Type 0 where
   pub reaches : Reaches p map base
   pub enough : takes p ≤ depth
-  pub within : depth ≤ length stack
+  pub within : depth ≤ 32
 
 pub record Enterable (p : Part) (map : List ℕ) (base g : ℕ) (stack : List ℕ) (depth n : ℕ) : Type 0 where
   pub ready : (p ≡ Closing → ⊥) → Ready (takes p) g stack depth n
   pub reaches : Reaches p map base
   pub within : depth ≤ length stack
+  pub tall : length stack ≡ 32
   pub mapped : (j : ℕ) → get_or map j 0 < 32768
 
 -- a closing record leaves all as it was
-pub record Ended (out out' : List ℕ) (r : Option Step) : Type 0 where
+pub record Ended (out out' : List ℕ) (r : Option ℕ) : Type 0 where
   pub ends : r ≡ None
   pub same : out' ≡ out
 
-pub record Entered (p : Part) (map : List ℕ) (base g : ℕ) (stack : List ℕ) (depth : ℕ) (out : List ℕ) (n : ℕ) (stack' out' : List ℕ) (r : Option Step) : Type 0 where
-  pub on : (p ≡ Closing → ⊥) → Put (takes p) (part_clauses (vars_of map base) g p (stk stack depth)) g stack depth out n stack' out' r
+pub record Entered (p : Part) (map : List ℕ) (base g : ℕ) (stack : List ℕ) (depth : ℕ) (out : List ℕ) (n : ℕ) (stack' : List ℕ) (depth' : ℕ) (out' : List ℕ) (r : Option ℕ) : Type 0 where
+  pub on : (p ≡ Closing → ⊥) → Put (takes p) (part_clauses (vars_of map base) g p (stk stack depth)) g stack depth out n stack' depth' out' r
   pub closed : p ≡ Closing → Ended out out' r
+  pub tall : length stack' ≡ length stack

@@ -25,16 +25,9 @@ fn number_coils(map: &mut [u16])
 }
 
 // The clauses of the sheet's rungs, from number n on.
-fn ladder(
-    s: &[u8],
-    h: Layout,
-    map: &mut [u16],
-    stack: &mut [u16],
-    out: &mut [u16],
-    n: usize,
-) -> Wrote
-    requires { RungsAt s.now h.at h.rungs map.old (h.coils + 1) (h.coils + 1 + h.inputs) stack.old n }
-    ensures { RungsWritten s.now h.at h.rungs map.old (h.coils + 1) (h.coils + 1 + h.inputs) stack.old out.old n map.new out.new result }
+fn ladder(s: &[u8], h: Layout, map: &mut [u16], out: &mut [u16], n: usize) -> Wrote
+    requires { RungsAt s.now h.at h.rungs map.old (h.coils + 1) (h.coils + 1 + h.inputs) n }
+    ensures { RungsWritten s.now h.at h.rungs map.old (h.coils + 1) (h.coils + 1 + h.inputs) out.old n map.new out.new result }
 {
     let inputs = h.coils + 1;
     let from = Wrote {
@@ -42,23 +35,16 @@ fn ladder(
         g: inputs + h.inputs,
         n,
     };
-    rung_clauses(s, h.rungs, map, inputs, from, stack, out)
+    rung_clauses(s, h.rungs, map, inputs, from, out)
 }
 
 // The clauses of a formula, then the unit clause of its top, plain or negated.
 #[tactic(auto, using(crate::proofs::TopLaws::top_cases))]
-fn formula_top(
-    s: &[u8],
-    vars: Variables,
-    from: Wrote,
-    stack: &mut [u16],
-    out: &mut [u16],
-    on: bool,
-) -> Wrote
-    requires { FormulaAt s.now from.at vars.coils.now vars.inputs from.g stack.old from.n }
-    ensures { TopWritten on s.now from.at vars.entry.coils.now vars.entry.inputs from.g stack.old out.old from.n out.new result }
+fn formula_top(s: &[u8], vars: Variables, from: Wrote, out: &mut [u16], on: bool) -> Wrote
+    requires { FormulaAt s.now from.at vars.coils.now vars.inputs from.g from.n }
+    ensures { TopWritten on s.now from.at vars.entry.coils.now vars.entry.inputs from.g out.old from.n out.new result }
 {
-    let w = formula_clauses(s, vars, from, stack, out);
+    let w = formula_clauses(s, vars, from, out);
     Wrote {
         n: unit(out, w.n, w.g - 1, on),
         ..w
@@ -67,15 +53,15 @@ fn formula_top(
 
 // The variable after a formula's records. No clause is written: the first would be one past the room.
 #[tactic(auto, using(crate::proofs::TopLaws::top_cases))]
-fn formula_end(s: &[u8], vars: Variables, from: Wrote, stack: &mut [u16], out: &mut [u16]) -> u16
-    requires { FormulaAt s.now from.at vars.coils.now vars.inputs from.g stack.old (length out.old / 3) }
-    ensures { FormulaPassed s.now from.at vars.entry.coils.now vars.entry.inputs from.g stack.old out.old out.new result }
+fn formula_end(s: &[u8], vars: Variables, from: Wrote, out: &mut [u16]) -> u16
+    requires { FormulaAt s.now from.at vars.coils.now vars.inputs from.g (length out.old / 3) }
+    ensures { FormulaPassed s.now from.at vars.entry.coils.now vars.entry.inputs from.g out.old out.new result }
 {
     let past = Wrote {
         n: out.len() / 3,
         ..from
     };
-    formula_clauses(s, vars, past, stack, out).g
+    formula_clauses(s, vars, past, out).g
 }
 
 // Set 1: the start values, the invariant before, its top negated. The sheet's formulas are passed for their variables.
@@ -85,16 +71,15 @@ fn start_set(
     h: Layout,
     before: &[u16],
     after: &mut [u16],
-    stack: &mut [u16],
     out: &mut [u16],
 ) -> usize
     requires there { SetThere s.now c.now h }
-    requires lent { Scratch before.now after.old stack.old }
+    requires lent { Scratch before.now after.old }
     ensures { SetWritten start s.now c.now h out.old out.new result }
 {
     let inputs = h.coils + 1;
     let full = out.len() / 3;
-    let r = ladder(s, h, after, stack, out, full);
+    let r = ladder(s, h, after, out, full);
     let g = formula_end(
         s,
         Variables {
@@ -102,7 +87,6 @@ fn start_set(
             inputs,
         },
         r,
-        stack,
         out,
     );
     let n = start_units(s, h.coils, out);
@@ -110,7 +94,7 @@ fn start_set(
         coils: before,
         inputs,
     };
-    formula_top(c, old, Wrote { at: 1, g, n }, stack, out, false).n
+    formula_top(c, old, Wrote { at: 1, g, n }, out, false).n
 }
 
 // Set 2: the rungs, the invariant before, its top, the invariant after, its top negated. The condition is passed.
@@ -120,26 +104,25 @@ fn keep_set(
     h: Layout,
     before: &[u16],
     after: &mut [u16],
-    stack: &mut [u16],
     out: &mut [u16],
 ) -> usize
     requires there { SetThere s.now c.now h }
-    requires lent { Scratch before.now after.old stack.old }
+    requires lent { Scratch before.now after.old }
     ensures { SetWritten keep s.now c.now h out.old out.new result }
 {
     let inputs = h.coils + 1;
-    let r = ladder(s, h, after, stack, out, 0);
+    let r = ladder(s, h, after, out, 0);
     let new = Variables {
         coils: after,
         inputs,
     };
-    let g = formula_end(s, new, r, stack, out);
+    let g = formula_end(s, new, r, out);
     let old = Variables {
         coils: before,
         inputs,
     };
-    let i = formula_top(c, old, Wrote { at: 1, g, n: r.n }, stack, out, true);
-    formula_top(c, new, Wrote { at: 1, ..i }, stack, out, false).n
+    let i = formula_top(c, old, Wrote { at: 1, g, n: r.n }, out, true);
+    formula_top(c, new, Wrote { at: 1, ..i }, out, false).n
 }
 
 // Set 3: the rungs, the condition, the invariant before, its top, the condition's top negated.
@@ -149,15 +132,14 @@ fn safe_set(
     h: Layout,
     before: &[u16],
     after: &mut [u16],
-    stack: &mut [u16],
     out: &mut [u16],
 ) -> usize
     requires there { SetThere s.now c.now h }
-    requires lent { Scratch before.now after.old stack.old }
+    requires lent { Scratch before.now after.old }
     ensures { SetWritten safe s.now c.now h out.old out.new result }
 {
     let inputs = h.coils + 1;
-    let r = ladder(s, h, after, stack, out, 0);
+    let r = ladder(s, h, after, out, 0);
     let q = formula_clauses(
         s,
         Variables {
@@ -165,14 +147,13 @@ fn safe_set(
             inputs,
         },
         r,
-        stack,
         out,
     );
     let old = Variables {
         coils: before,
         inputs,
     };
-    let i = formula_top(c, old, Wrote { at: 1, ..q }, stack, out, true);
+    let i = formula_top(c, old, Wrote { at: 1, ..q }, out, true);
     unit(out, i.n, q.g - 1, false)
 }
 
@@ -184,10 +165,9 @@ pub fn clause_set(set: Set, s: &[u8], c: &[u8], h: Layout, out: &mut [u16]) -> u
     let mut before = [0u16; Sheet::COILS];
     number_coils(&mut before);
     let mut after = before;
-    let mut stack = [0u16; Sheet::DEPTH];
     match set {
-        Set::Start => start_set(s, c, h, &before, &mut after, &mut stack, out),
-        Set::Keep => keep_set(s, c, h, &before, &mut after, &mut stack, out),
-        Set::Safe => safe_set(s, c, h, &before, &mut after, &mut stack, out),
+        Set::Start => start_set(s, c, h, &before, &mut after, out),
+        Set::Keep => keep_set(s, c, h, &before, &mut after, out),
+        Set::Safe => safe_set(s, c, h, &before, &mut after, out),
     }
 }
