@@ -1,11 +1,10 @@
 -- The set that an argument names, and the count of variables that set 2 shows.
 -- Assumes nothing.
-use Prim.Native.Nat.{ℕ, ◌-◌, ◌*◌, ◌≤◌, ◌<◌}
+use Prim.Native.Nat.{ℕ, ◌*◌}
 use mathlib.Core.Path.{◌≡◌, sym, ap, ◌∙◌}
 use mathlib.Core.List.{List}
 use native.Mathlib.Omega.{arith}
-use lib.ListN.{length, get_or, drop}
-use borrow.Author.Tests.{le-leb, lt-leb, eq-eqb, ne_eqb}
+use lib.ListN.{length, drop}
 use Rattle.rules.specs.Head.{base_limits}
 use Rattle.rules.specs.Certificate.{Which.keep}
 use Rattle.rules.specs.Clauses.{clause_set}
@@ -15,7 +14,7 @@ use Rattle.rules.specs.declared.refusals.Refusal.{Refusal}
 use Rattle.files.specs.Files.{base_bounds, Translates}
 use Rattle.dimacs.specs.Dimacs.{last_variable}
 use Rattle.dimacs.proofs.SetLaws.{text_is_the_sets}
-use Rattle.cnf.specs.Set.{set_named, CountsVariables}
+use Rattle.cnf.specs.Set.{CountsVariables}
 
 module _ (s c w w' : List ℕ) (r : Result ℕ Refusal) (x : Translates base_limits base_bounds 2 s c w w' r) where
   pub none_written : (y : Refusal) → r ≡ Err y → CountsVariables s c (length w) 0

@@ -10,7 +10,6 @@ use Rattle.rules.specs.declared.Answer.TheVariants.{Accepted, Confirmed}
 use Rattle.std.specs.Prelude.{Result, Ok, Err}
 use Rattle.rules.specs.Fault.{number_of as fault_number, refusal_of}
 use Rattle.rules.specs.declared.refusals.Refusal.{Refusal}
-use Rattle.rules.specs.Walk.{◌at◌}
 use native.Mathlib.Omega.{arith}
 use Rattle.rules.specs.Verdict.{Verdict, Verdict.accepted, Verdict.confirmed, Verdict.refused, judge, answer_of, Translation, Translation.written, Translation.withheld, translation, written_of, count_of}
 use Rattle.clauses.specs.Translated.{Translated}

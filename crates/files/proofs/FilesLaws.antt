@@ -1,6 +1,6 @@
 -- The bounds of the two files, by the tests of the code.
 -- Assumes nothing.
-use Prim.Native.Nat.{ℕ, ◌≤◌, ◌<◌}
+use Prim.Native.Nat.{ℕ, ◌≤◌}
 use mathlib.Core.Path.{◌≡◌, refl}
 use mathlib.Core.Bool.{Bool, true, false, ◌&&◌}
 use mathlib.Core.List.{List}
@@ -15,7 +15,7 @@ use Rattle.rules.specs.declared.Answer.{Answer}
 use Rattle.rules.specs.declared.Set.{Set}
 use Rattle.rules.specs.declared.Set.TheVariants.{Start, Keep, Safe}
 use Rattle.rules.specs.declared.refusals.Fault.{Fault}
-use Rattle.rules.specs.declared.refusals.Fault.TheVariants.{FileSize, NoSet}
+use Rattle.rules.specs.declared.refusals.Fault.TheVariants.{FileSize}
 use Rattle.rules.specs.declared.refusals.Refusal.{Refusal}
 use Rattle.files.specs.Files.{base_bounds, too_long, judge_files, zeroed, Judged, translate_files, Translates}
 

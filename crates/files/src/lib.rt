@@ -34,7 +34,12 @@ pub fn judge_files(sheet: &[u8], certificate: &[u8], work: &mut [u16]) -> Result
 
 // The translator's answer, after 29 and 27.
 #[tactic(auto, using(crate::proofs::FilesLaws::translate_files_cases))]
-pub fn translate_files(set: u32, sheet: &[u8], certificate: &[u8], room: &mut [u16]) -> Result<usize, Refusal>
+pub fn translate_files(
+    set: u32,
+    sheet: &[u8],
+    certificate: &[u8],
+    room: &mut [u16],
+) -> Result<usize, Refusal>
     ensures { Translates base_limits base_bounds set sheet.now certificate.now room.old room.new result }
 {
     Set::try_from(set)?;

@@ -36,7 +36,13 @@ fn say_unreadable(rt: &impl Print) -> io::Result<()> {
 }
 
 // The line for what was read of the two files, in rooms that hold one byte past each bound.
-fn answer(rt: &impl Print, a: Option<usize>, sheet: &[u8], b: Option<usize>, certificate: &[u8]) -> io::Result<()>
+fn answer(
+    rt: &impl Print,
+    a: Option<usize>,
+    sheet: &[u8],
+    b: Option<usize>,
+    certificate: &[u8],
+) -> io::Result<()>
     requires sheet_holds { Holds sheet.now 0 a }
     requires certificate_holds { Holds certificate.now 0 b }
     requires sheet_room { length sheet.now ≡ base_bounds.sheet + 1 }

@@ -1,4 +1,4 @@
-use Rattle.std.proofs.Common.{rules, ◌∙◌}
+use Rattle.std.proofs.Common.{rules}
 use Rattle.export.proofs.ExportedLaws.{tells_accepted, tells_confirmed, tells_refused}
 use Rattle.export.proofs.gustvane_check.Goals as goal
 

@@ -1,4 +1,4 @@
-use Rattle.std.proofs.Common.{rules, ◌∙◌}
+use Rattle.std.proofs.Common.{rules}
 use Rattle.export.proofs.ExportedLaws.{tells_written, tells_withheld}
 use Rattle.export.proofs.gustvane_translate.Goals as goal
 
