@@ -3,10 +3,14 @@
 
 mod reasons;
 mod spots;
+mod traces;
 mod walk;
 
+ghost use Rattle.std.specs.Prelude.{◌≤◌, length};
+
+use files::{CERTIFICATE, SHEET};
 use line::ROOM;
-use rules::{Answer, Fault, Refusal};
+use rules::{Answer, Fault, Refusal, Sheet};
 use std::io;
 use std::io::Print;
 
@@ -14,6 +18,14 @@ fn say_line(rt: &impl Print, answer: Result<Answer, Refusal>) -> io::Result<()> 
     let mut text = [0u8; ROOM];
     let n = line::write_line(answer, &mut text);
     rt.write_all(&text[..n])
+}
+
+fn say_unreadable(rt: &impl Print) -> io::Result<()> {
+    let mut text = [0u8; ROOM];
+    let n = line::write_unreadable(&mut text);
+    rt.write_all(&text[..n])?;
+    println!(rt; "A file's name is missing, or a file cannot be opened or read.")?;
+    println!(rt; "Give two names: the sheet's, then the certificate's.")
 }
 
 // What a refusal means, and where the record at its place stands.
@@ -53,8 +65,34 @@ fn say_refused(
     }
 }
 
+// The line, and what it means, of the sheet in the first n bytes of its room.
+fn explain(rt: &impl Print, sheet: &mut [u8], n: usize, certificate: &mut [u8]) -> io::Result<()>
+    requires { n ≤ length sheet.old }
+{
+    let mut work = [0u16; Sheet::PLACES];
+    let answer = files::judge_files(&sheet[..n], certificate, &mut work);
+    say_line(rt, answer)?;
+    match answer {
+        Ok(Answer::Accepted) => {
+            println!(rt;
+                "The certificate proves that the condition holds after every scan, whatever the inputs."
+            )
+        }
+        Ok(Answer::Confirmed { scan }) => {
+            traces::confirmed(rt, sheet, certificate, scan, &mut work)
+        }
+        Err(refusal) => say_refused(rt, &sheet[..n], certificate, refusal),
+    }
+}
+
+// Each room holds one byte past its file's bound.
 fn main(rt: HostRuntime) -> io::Result<()> {
-    let answer = Err(Fault::NoSet.at(0));
-    say_line(&rt, answer)?;
-    say_refused(&rt, b"", b"", Fault::NoSet.at(0))
+    let mut sheet = [0u8; SHEET + 1];
+    let mut certificate = [0u8; CERTIFICATE + 1];
+    let a = loading::load(&rt, 1, &mut sheet);
+    let b = loading::load(&rt, 2, &mut certificate);
+    let (Some(n), Some(m)) = (a, b) else {
+        return say_unreadable(&rt);
+    };
+    explain(&rt, &mut sheet, n, &mut certificate[..m])
 }
