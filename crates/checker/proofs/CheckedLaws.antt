@@ -12,10 +12,13 @@ use Rattle.base.specs.Lists.{fresh}
 use Rattle.rules.specs.Kind
 use Rattle.rules.specs.Record.{front}
 use Rattle.rules.specs.declared.Limits.{Limits}
+use Rattle.std.specs.Prelude.{Result, Ok, Err}
 use Rattle.rules.specs.declared.Answer.{Answer}
-use Rattle.rules.specs.declared.Answer.TheVariants.{Refused}
+use Rattle.rules.specs.declared.refusals.Fault.TheVariants.{ShortWorkspace}
+use Rattle.rules.specs.declared.refusals.Refusal.{Refusal}
+use Rattle.rules.specs.Fault.{refusal_of}
 use Rattle.rules.specs.Head.{base_limits}
-use Rattle.rules.specs.Walk.{◌at◌, Reading.stopped, Reading.closed, move_at, walk, reading}
+use Rattle.rules.specs.Walk.{Reading.stopped, Reading.closed, move_at, walk, reading}
 use Rattle.rules.specs.Sheet.{Sheet}
 use Rattle.rules.specs.ReadSheet.{SheetRead.bad, read_sheet}
 use Rattle.rules.specs.WriteSheet.{write_formula, WithinSheet, Bytes}
@@ -24,70 +27,67 @@ use Rattle.rules.specs.Verdict.{judge, judge_safe, judge_opened, judge_certifica
 use Rattle.reading.proofs.SheetKept.{sheet_written}
 use Rattle.reading.proofs.InvariantLaws.{InvariantWritten, invariant_written}
 use Rattle.sheets.specs.declared.Outline.{Outline}
-use Rattle.sheets.specs.declared.SheetAnswer.{SheetAnswer}
-use Rattle.sheets.specs.declared.SheetAnswer.TheVariants.{Good as GoodSheet, Bad as BadSheet}
-use Rattle.sheets.specs.declared.InvariantAnswer.{InvariantAnswer}
-use Rattle.sheets.specs.declared.InvariantAnswer.TheVariants.{Good, Bad}
-use Rattle.sheets.specs.declared.Opened.{Opened}
-use Rattle.sheets.specs.declared.Opened.TheVariants.{Safe, Trace, Bad as NotOpened}
+use Rattle.sheets.specs.declared.Invariant.{Invariant}
+use Rattle.sheets.specs.declared.Opening.TheVariants.{Safe, Trace}
 use Rattle.sheets.specs.Answer.{Outlined, Says, ReadAs}
 use Rattle.sheets.specs.Certificate.{opening_kinds, opened_as, InvariantThere, InvariantSays, InvariantAs}
 use Rattle.clauses.specs.declared.Layout.{Layout}
+use Rattle.clauses.specs.Translated.{Fitting, layout_of}
 use Rattle.checker.specs.Traced.{TracedAt, Traces}
 use Rattle.checker.specs.Refuted.{SafeAt, before_it, Follows}
-use Rattle.checker.specs.Checked.{Checked, layout_of, Drawable, Lent, SafeFor, JudgesSafe, OpenedFor, JudgesOpened, JudgesBytes}
+use Rattle.checker.specs.Checked.{Checked, Lent, JudgesSafe, OpenedFor, JudgesOpened, JudgesBytes}
 use Rattle.ladder.proofs.SheetBytes.{starts_length}
 
 -- a safety certificate
-module _ (l : Limits) (s c : List ℕ) (h : Outline) (before after stack w : List ℕ) where
-  pub invariant_bad : (x : InvariantAnswer) (n p : ℕ) → InvariantAs l h.coils c x → x ≡ Bad n p → JudgesSafe l s c h before after stack w (Refused n p)
+module _ (l : Limits) (s c : List ℕ) (h : Outline) (w : List ℕ) where
+  pub invariant_bad : (x : Refusal) → InvariantAs l h.coils c (Err x) → JudgesSafe l s c h w (Err x)
   unfolding InvariantSays judge_safe answer_of
-  invariant_bad x n p i e a =
+  invariant_bad x i a =
       let t = a.outlined.sheet in
-      let y : read_invariant l t c ≡ stopped (n at p) = subst (λ (z : InvariantAnswer). InvariantSays l t c z) e (i.answered t (sym a.outlined.coils_are)) in
+      let y : read_invariant l t c ≡ stopped (refusal_of x) = i.answered t (sym a.outlined.coils_are) in
       rw y
 
-  module _ (x : InvariantAnswer) (end size : ℕ) (i : InvariantAs l h.coils c x) (e : x ≡ Good end size) (a : SafeFor l s c h before after stack w) where
+  module _ (v : Invariant) (i : InvariantAs l h.coils c (Ok v)) (a : OpenedFor l s c h w) where
     abbrev t : Sheet
     t = a.outlined.sheet
 
-    there : InvariantThere l t c end size
+    there : InvariantThere l t c v.end v.size
     unfolding InvariantSays
-    there = subst (λ (z : InvariantAnswer). InvariantSays l t c z) e (i.answered t (sym a.outlined.coils_are))
+    there = i.answered t (sym a.outlined.coils_are)
 
-    wrote : InvariantWritten l t c end there.invariant
-    wrote = invariant_written l t c end there.invariant a.bytes there.reads
+    wrote : InvariantWritten l t c v.end there.invariant
+    wrote = invariant_written l t c v.end there.invariant a.bytes there.reads
 
     within : WithinSheet l t
     within = (sheet_written l s t a.sheet_bytes a.outlined.reads).0
 
-    pub end_inside : end + 1 ≤ length c
+    pub end_inside : v.end + 1 ≤ length c
     end_inside =
-        let b : length c - 1 ≡ length (write_formula there.invariant) + suc (length (drop (end + 1) c)) =
-        sym (length-drop 1 c) ∙ ap length wrote.bytes ∙ length-append (write_formula there.invariant) (Kind.INVARIANT ∷ drop (end + 1) c) in
+        let b : length c - 1 ≡ length (write_formula there.invariant) + suc (length (drop (v.end + 1) c)) =
+        sym (length-drop 1 c) ∙ ap length wrote.bytes ∙ length-append (write_formula there.invariant) (Kind.INVARIANT ∷ drop (v.end + 1) c) in
         let p = wrote.place in
         omega arith
 
-    pub end_fits : length c < 18446744073709551616 → end + 1 < 18446744073709551616
-    end_fits b = let z = end_inside in omega arith
+    pub next_fits : length c < 18446744073709551616 → v.end + 1 < 18446744073709551616
+    next_fits b = let z = end_inside in omega arith
 
-    pub drawable : Drawable h
-    drawable =
+    pub fitting : Fitting h
+    fitting =
         let m = a.outlined in
         let k = within in
         let d = a.lent.small.limited in
         record {
-          inputs_few = let x = m.inputs_are in let y = k.inputs_fit in let z = d.inputs_few in omega arith;
-          coils_few = let x = m.coils_are in let y = k.coils_fit in let z = d.coils_few in omega arith;
+          inputs_fit = let x = m.inputs_are in let y = k.inputs_fit in let z = d.inputs_few in omega arith;
+          coils_fit = let x = m.coils_are in let y = k.coils_fit in let z = d.coils_few in omega arith;
         }
 
-    pub safe_here : SafeAt l s c (layout_of h) before after stack w
+    pub safe_here : SafeAt l s c (layout_of h) w
     safe_here =
         let m = a.outlined in
         record {
           sheet = t;
           invariant = there.invariant;
-          rest = Kind.INVARIANT ∷ drop (end + 1) c;
+          rest = Kind.INVARIANT ∷ drop (v.end + 1) c;
           given = record {
             sheet_bytes = (sheet_written l s t a.sheet_bytes m.reads).1;
             inputs_are = m.inputs_are;
@@ -98,36 +98,21 @@ module _ (l : Limits) (s c : List ℕ) (h : Outline) (before after stack w : Lis
             invariant_bytes = wrote.bytes;
             closes = refl;
             invariant_within = wrote.within;
-            narrow = a.lent.small.narrow;
-            deep = a.stack_room;
-            before_wide = a.before_room;
-            after_wide = a.after_room;
+            slight = a.lent.small.slight;
           };
-          before_narrow = a.before_narrow;
-          after_narrow = a.after_narrow;
           limited = a.lent.small.limited;
           room = a.lent.room;
         }
 
-    pub safe_so : (r : Answer) → Follows start l s c (layout_of h) (end + 1) before after stack w r → answer_of r ≡ judge_safe l t c (read_invariant l t c)
-    unfolding safe_here judge_safe read_steps before_it
-    safe_so r f = f safe_here (suc (length (drop (end + 1) c))) (omega arith) ∙ rw there.reads
+  pub safe_stands : (v : Invariant) → InvariantAs l h.coils c (Ok v) → (y : Layout) → y ≡ layout_of h → OpenedFor l s c h w → SafeAt l s c y w
+  safe_stands v i y z a = subst (λ (g : Layout). SafeAt l s c g w) (sym z) (safe_here v i a)
 
-  -- as the code meets them
-  module _ (x : InvariantAnswer) (end size : ℕ) (i : InvariantAs l h.coils c x) (e : x ≡ Good end size) where
-    pub layout_fits : SafeFor l s c h before after stack w → Drawable h
-    layout_fits a = drawable x end size i e a
-
-    pub next_fits : SafeFor l s c h before after stack w → length c < 18446744073709551616 → end + 1 < 18446744073709551616
-    next_fits a b = end_fits x end size i e a b
-
-    pub safe_stands : (y : Layout) → y ≡ layout_of h → SafeFor l s c h before after stack w → SafeAt l s c y before after stack w
-    safe_stands y z a = subst (λ (g : Layout). SafeAt l s c g before after stack w) (sym z) (safe_here x end size i e a)
-
-    pub safe_judged : (y : Layout) → y ≡ layout_of h → (r : Answer) → Follows start l s c y (end + 1) before after stack w r → JudgesSafe l s c h before after stack w r
-    safe_judged y z r f a = safe_so x end size i e a r (subst (λ (g : Layout). Follows start l s c g (end + 1) before after stack w r) z f)
-
-pub ruleset judge_safe_cases = (invariant_bad, layout_fits, next_fits, safe_stands, safe_judged)
+  pub safe_judged : (v : Invariant) → InvariantAs l h.coils c (Ok v) → (y : Layout) → y ≡ layout_of h → (r : Result Answer Refusal)
+      → Follows start l s c y (v.end + 1) w r → JudgesSafe l s c h w r
+  unfolding safe_here judge_safe read_steps before_it
+  safe_judged v i y z r f a =
+      let g : Follows start l s c (layout_of h) (v.end + 1) w r = subst (λ (g : Layout). Follows start l s c g (v.end + 1) w r) z f in
+      g (safe_here v i a) (suc (length (drop (v.end + 1) c))) (omega arith) ∙ rw (there v i a).reads
 
 -- the opening record
 none_opens : (k : ℕ) → reading (opening (Kind.SAFE ∷ Kind.TRACE ∷ [])) [] 0 tt ≡ closed 0 k → ⊥
@@ -138,101 +123,71 @@ some_opens : (c : List ℕ) (k : ℕ) → reading (opening (Kind.SAFE ∷ Kind.T
 some_opens [] k e = absurd (none_opens k e)
 some_opens (b ∷ bs) k e = omega arith
 
-module _ (l : Limits) (s c : List ℕ) (h : Outline) (coils w : List ℕ) (o : Opened) (f : opened_as o ≡ reading (opening (opening_kinds true)) c 0 tt) where
-  pub not_opened : (n p : ℕ) → o ≡ NotOpened n p → JudgesOpened l s c h coils w (Refused n p)
+module _ (l : Limits) (s c : List ℕ) (h : Outline) (w : List ℕ) where
+  pub not_opened : (x : Refusal) → opened_as (Err x) ≡ reading (opening (opening_kinds true)) c 0 tt → JudgesOpened l s c h w (Err x)
   unfolding judge_opened answer_of
-  not_opened n p e a = rw (sym f ∙ ap opened_as e)
+  not_opened x f a = rw (sym f)
 
-  pub trace_at : o ≡ Trace → OpenedFor l s c h coils w → (inputs stack : List ℕ) → 256 ≡ length inputs → 32 ≡ length stack → TracedAt l s c h inputs coils stack
-  trace_at e a inputs stack x y =
-      let m = a.lent.small in
-      record {
-        outlined = a.outlined;
-        bytes = a.sheet_bytes;
-        opened = some_opens c Kind.TRACE (sym f ∙ ap opened_as e);
-        few = m.scans_few;
-        inputs_room = let z = m.inputs_room in omega arith;
-        coils_room = a.coils_room;
-        stack_room = let z = m.stack_room in omega arith;
-      }
-
-  pub traced_so : o ≡ Trace → (inputs stack : List ℕ) → 256 ≡ length inputs → 32 ≡ length stack → (r : Answer) → Traces l s c h inputs coils stack r → JudgesOpened l s c h coils w r
-  unfolding judge_opened trace_at
-  traced_so e inputs stack x y r t a = t (trace_at e a inputs stack x y) ∙ rw (sym f ∙ ap opened_as e)
-
-  pub safe_for : OpenedFor l s c h coils w → (after stack : List ℕ) → 256 ≡ length after → 32 ≡ length stack → SafeFor l s c h coils after stack w
-  safe_for a after stack x y =
-      let m = a.lent.small in
-      record {
-        lent = a.lent;
-        outlined = a.outlined;
-        sheet_bytes = a.sheet_bytes;
-        bytes = a.bytes;
-        before_room = a.coils_room;
-        before_narrow = a.coils_narrow;
-        after_room = let z = m.coils_room in omega arith;
-        after_narrow = omega arith;
-        stack_room = let z = m.stack_room in omega arith;
-      }
-
-  pub opened_safe : o ≡ Safe → (after stack : List ℕ) → 256 ≡ length after → 32 ≡ length stack → (r : Answer) → JudgesSafe l s c h coils after stack w r → JudgesOpened l s c h coils w r
-  unfolding judge_opened safe_for
-  opened_safe e after stack x y r t a = t (safe_for a after stack x y) ∙ rw (sym f ∙ ap opened_as e)
-
-pub ruleset judge_opened_cases = (not_opened, trace_at, traced_so, safe_for, opened_safe)
-
--- the whole sheet first
-module _ (l : Limits) (s c m m' : List ℕ) (x : SheetAnswer) (i : ReadAs l s m m' x) where
-  pub sheet_bad : (n p : ℕ) → x ≡ BadSheet n p → JudgesBytes l s c (Refused n p)
-  unfolding Says judge_certificate answer_of
-  sheet_bad n p e =
-      let y : read_sheet l s ≡ bad (n at p) = subst (λ (z : SheetAnswer). Says l s z) e i.answered in
-      rw y
-
-  module _ (h : Outline) (e : x ≡ GoodSheet h) (w : List ℕ) (k : Lent l w) (bs : Bytes s) (bc : Bytes c) (long : 256 ≡ length m) where
-    outlined : Outlined l s h
-    unfolding Says
-    outlined = subst (λ (z : SheetAnswer). Says l s z) e i.answered
-
-    pub opened_for : OpenedFor l s c h m' w
-    opened_for =
-        let y = i.long in
-        let z = k.small.coils_room in
+  module _ (f : opened_as (Ok Trace) ≡ reading (opening (opening_kinds true)) c 0 tt) where
+    pub trace_at : OpenedFor l s c h w → TracedAt l s c h
+    trace_at a =
+        let m = a.lent.small in
         record {
-          lent = k;
-          outlined = outlined;
-          sheet_bytes = bs;
-          bytes = bc;
-          coils_room = omega arith;
-          coils_narrow = omega arith;
+          outlined = a.outlined;
+          bytes = a.sheet_bytes;
+          opened = some_opens c Kind.TRACE (sym f);
+          few = m.scans_few;
+          inputs_room = m.inputs_room;
+          coils_room = m.slight.coils_fit;
+          stack_room = m.slight.depth_fits;
         }
 
-    pub sheet_good : (r : Answer) → JudgesOpened l s c h m' w r → JudgesBytes l s c r
+    pub traced_so : (r : Result Answer Refusal) → Traces l s c h r → JudgesOpened l s c h w r
+    unfolding judge_opened trace_at
+    traced_so r t a = t (trace_at a) ∙ rw (sym f)
+
+  pub opened_safe : opened_as (Ok Safe) ≡ reading (opening (opening_kinds true)) c 0 tt → (r : Result Answer Refusal) → JudgesSafe l s c h w r → JudgesOpened l s c h w r
+  unfolding judge_opened
+  opened_safe f r t a = t a ∙ rw (sym f)
+
+-- the whole sheet first
+module _ (l : Limits) (s c m m' : List ℕ) where
+  pub sheet_bad : (x : Refusal) → ReadAs l s m m' (Err x) → JudgesBytes l s c (Err x)
+  unfolding Says judge_certificate answer_of
+  sheet_bad x i =
+      let y : read_sheet l s ≡ bad (refusal_of x) = i.answered in
+      rw y
+
+  module _ (h : Outline) (i : ReadAs l s m m' (Ok h)) (w : List ℕ) (k : Lent l w) (bs : Bytes s) (bc : Bytes c) where
+    outlined : Outlined l s h
+    unfolding Says
+    outlined = i.answered
+
+    pub opened_for : OpenedFor l s c h w
+    opened_for = record { lent = k; outlined = outlined; sheet_bytes = bs; bytes = bc }
+
+    pub sheet_good : (r : Result Answer Refusal) → JudgesOpened l s c h w r → JudgesBytes l s c r
     unfolding opened_for judge_certificate
     sheet_good r t = t opened_for ∙ rw outlined.reads
-
-pub ruleset judge_bytes_cases = (sheet_bad, opened_for, sheet_good)
 
 -- the workspace
 base_lent : (w : List ℕ) → length w ≡ 32768 → Lent base_limits w
 base_lent w e = record {
   small = record {
     limited = record { coils_few = omega arith; inputs_few = omega arith; records_few = omega arith; invariant_few = omega arith; width_few = omega arith };
+    slight = record { coils_fit = omega arith; depth_fits = omega arith; narrow = omega arith };
     inputs_room = omega arith;
-    coils_room = omega arith;
-    stack_room = omega arith;
     scans_few = omega arith;
-    narrow = omega arith;
   };
   room = omega arith;
 }
 
 module _ (l : Limits) (b : l ≡ base_limits) (s c w : List ℕ) where
-  pub too_short : length w < l.places → Checked base_limits s c w w (Refused 1 0)
+  pub too_short : length w < l.places → Checked base_limits s c w w (Err (record { fault = ShortWorkspace; place = 0 }))
   unfolding judge answer_of
   too_short h = rw b at (short h)
     where
-      short : length w < l.places → Checked l s c w w (Refused 1 0)
+      short : length w < l.places → Checked l s c w w (Err (record { fault = ShortWorkspace; place = 0 }))
       short h = record { answered = rw (lt-ltb _ _ h); left = rw (lt-ltb _ _ h) }
 
   pub part_taken : l.places ≤ length w → l.places ≡ length (take l.places w)
@@ -243,7 +198,7 @@ module _ (l : Limits) (b : l ≡ base_limits) (s c w : List ℕ) where
       let e : length (take l.places w) ≡ 32768 = length-take-le l.places w h ∙ ap (λ (x : Limits). x.places) b in
       subst (λ (x : Limits). Lent x (take l.places w)) (sym b) (base_lent (take l.places w) e)
 
-  pub checked : l.places ≤ length w → (x w' : List ℕ) (r : Answer) → length x ≡ length (take l.places w) → JudgesBytes l s c r → w' ≡ fresh l.places (x ++ drop l.places w)
+  pub checked : l.places ≤ length w → (x w' : List ℕ) (r : Result Answer Refusal) → length x ≡ length (take l.places w) → JudgesBytes l s c r → w' ≡ fresh l.places (x ++ drop l.places w)
       → Checked base_limits s c w w' r
   unfolding judge fresh
   checked h x w' r e j z = rw b at all

@@ -1,5 +1,5 @@
 -- What the checker promises: its answer, and every place of the lent workspace, for any bytes.
-use Rattle.std.specs.Prelude.{ℕ, ◌+◌, ◌*◌, ◌≤◌, ◌<◌, ◌≡◌, Result, List, [], ◌∷◌, length, ltb}
+use Rattle.std.specs.Prelude.{ℕ, ◌+◌, ◌≤◌, ◌<◌, ◌≡◌, Result, List, [], ◌∷◌, length, ltb}
 use Rattle.base.specs.Pick.{pick}
 use Rattle.base.specs.Lists.{fresh}
 use Rattle.rules.specs.Kind

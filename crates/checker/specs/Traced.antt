@@ -25,3 +25,14 @@ pub record TracedAt (l : Limits) (s c : List ℕ) (h : Outline) : Type 0 where
 abbrev pub Traces : Limits → List ℕ → List ℕ → Outline → Result Answer Refusal → Type 0
 Traces l s c h r =
     (a : TracedAt l s c h) → answer_of r ≡ judge_scans a.outlined.sheet c (unplayed a.outlined.sheet) (read_scans l a.outlined.sheet c)
+
+-- and on lent places that are enough for it
+pub record PlayedAt (l : Limits) (s c : List ℕ) (h : Outline) (inputs coils w : List ℕ) : Type 0 where
+  pub traced : TracedAt l s c h
+  pub inputs_lent : l.inputs ≤ length inputs
+  pub coils_lent : l.coils ≤ length coils
+  pub stack_lent : l.depth ≤ length w
+
+abbrev pub Plays : Limits → List ℕ → List ℕ → Outline → List ℕ → List ℕ → List ℕ → Result Answer Refusal → Type 0
+Plays l s c h inputs coils w r =
+    (a : PlayedAt l s c h inputs coils w) → answer_of r ≡ judge_scans a.traced.outlined.sheet c (unplayed a.traced.outlined.sheet) (read_scans l a.traced.outlined.sheet c)

@@ -17,6 +17,7 @@ fn clause_room(l: Limits) -> usize
 }
 
 // One refutation: its clauses are written first, and derived ones are not carried from one to the next.
+#[tactic(auto, using(crate::proofs::RefutedLaws::refute_cases))]
 fn refute(
     l: Limits,
     set: Set,
@@ -35,6 +36,7 @@ fn refute(
 }
 
 // The refutations of a certificate, from the place after INVARIANT on.
+#[tactic(auto, using(crate::proofs::RefutedLaws::safe_again))]
 pub fn judge_refutations(
     l: Limits,
     s: &[u8],

@@ -1,14 +1,17 @@
 -- Clauses written one by one, by the tests of the code.
 -- Assumes nothing.
 use Prim.Native.Nat.{ℕ, suc, ◌+◌, ◌*◌, ◌/◌, ◌≤◌, ◌<◌}
-use mathlib.Core.Path.{◌≡◌, refl, ap, ◌∙◌}
+use mathlib.Core.Path.{◌≡◌, refl}
 use mathlib.Core.Bool.{Bool, true, false}
 use mathlib.Core.List.{List, [], ◌∷◌, ◌++◌}
 use native.Mathlib.Omega.{arith}
 use lib.ListN.{length, set, length-set}
 use borrow.Author.Tests.{le-leb, lt-leb}
-use Rattle.rules.specs.Clauses.{Lit.plain, Lit.negated, Clause, place, place_of, contact_clauses, not_clauses, and_clauses, or_clauses}
+use Rattle.base.specs.Pick.{pick}
+use Rattle.rules.specs.Clauses.{Clause, place, place_of}
+use Rattle.clauses.specs.declared.gates.Gate.TheVariants.{Same, Fixed, Inverse, Both, Either}
 use Rattle.clauses.specs.Emits.{stored, emits, Emitted, signed}
+use Rattle.clauses.specs.Gates.{gate_clauses}
 
 module _ (w : List ℕ) (n a b c : ℕ) where
   pub no_room : length w / 3 ≤ n → w ≡ stored w n a b c
@@ -28,55 +31,41 @@ module _ (w : List ℕ) (n a b c : ℕ) where
 
 pub ruleset emit_cases = (no_room, second_in, third_in, room)
 
--- one clause, two, or three, each of three places
-one : (w w₁ : List ℕ) (n : ℕ) (x : Clause) → w₁ ≡ stored w n (place_of x 0) (place_of x 1) (place_of x 2) → Emitted w n (x ∷ []) w₁ (n + 1)
-unfolding emits
-one w w₁ n x e = record { wrote = e; counted = refl }
+-- the clauses of each gate, in the order of the code
+module _ (w : List ℕ) (n g : ℕ) where
+  pub unit_emitted : (w' : List ℕ) (on : Bool) (a : ℕ) → a ≡ pick on (2 * g) (2 * g + 1) → w' ≡ stored w n a 0 0 → Emitted w n (signed on g) w' (n + 1)
+  unfolding place emits
+  unit_emitted w' true a e f = record { wrote = rw e at f; counted = refl }
+  unit_emitted w' false a e f = record { wrote = rw e at f; counted = refl }
 
-two : (w w₁ w₂ : List ℕ) (n : ℕ) (x y : Clause) → w₁ ≡ stored w n (place_of x 0) (place_of x 1) (place_of x 2)
-    → w₂ ≡ stored w₁ (n + 1) (place_of y 0) (place_of y 1) (place_of y 2) → Emitted w n (x ∷ y ∷ []) w₂ (n + 2)
-unfolding emits
-two w w₁ w₂ n x y e f = record { wrote = f ∙ ap (λ (u : List ℕ). stored u (n + 1) (place_of y 0) (place_of y 1) (place_of y 2)) e; counted = refl }
+  pub fixed_clauses : (on : Bool) → gate_clauses g (Fixed on) ≡ signed on g
+  unfolding gate_clauses
+  fixed_clauses on = refl
 
-three : (w w₁ w₂ w₃ : List ℕ) (n : ℕ) (x y z : Clause) → w₁ ≡ stored w n (place_of x 0) (place_of x 1) (place_of x 2)
-    → w₂ ≡ stored w₁ (n + 1) (place_of y 0) (place_of y 1) (place_of y 2)
-    → w₃ ≡ stored w₂ (n + 2) (place_of z 0) (place_of z 1) (place_of z 2) → Emitted w n (x ∷ y ∷ z ∷ []) w₃ (n + 3)
-unfolding emits
-three w w₁ w₂ w₃ n x y z e f g =
-    let a : n + 1 + 1 ≡ n + 2 = omega arith in
-    record { wrote = rw (a, ← e, ← f) g; counted = refl }
+  pub same_emitted : (v : ℕ) → Emitted w n (gate_clauses g (Same v)) (stored (stored w n (2 * g + 1) (2 * v) 0) (n + 1) (2 * g) (2 * v + 1) 0) (n + 2)
+  unfolding place gate_clauses emits
+  same_emitted v = record { wrote = refl; counted = refl }
 
-module _ (w w₁ : List ℕ) (n g : ℕ) where
-  pub constant_on : (on : Bool) → on ≡ true → w₁ ≡ stored w n (2 * g) 0 0 → Emitted w n (signed on g) w₁ (n + 1)
-  unfolding place
-  constant_on on q e = rw q (one w w₁ n (plain g ∷ []) e)
+  pub inverse_emitted : (x : ℕ) → Emitted w n (gate_clauses g (Inverse x)) (stored (stored w n (2 * g + 1) (2 * x + 1) 0) (n + 1) (2 * g) (2 * x) 0) (n + 2)
+  unfolding place gate_clauses emits
+  inverse_emitted x = record { wrote = refl; counted = refl }
 
-  pub constant_off : (on : Bool) → on ≡ false → w₁ ≡ stored w n (2 * g + 1) 0 0 → Emitted w n (signed on g) w₁ (n + 1)
-  unfolding place
-  constant_off on q e = rw q (one w w₁ n (negated g ∷ []) e)
+  third : n + 1 + 1 ≡ n + 2
+  third = omega arith
 
-  module _ (w₂ : List ℕ) where
-    pub contact_emitted : (v : ℕ) → w₁ ≡ stored w n (2 * g + 1) (2 * v) 0 → w₂ ≡ stored w₁ (n + 1) (2 * g) (2 * v + 1) 0
-        → Emitted w n (contact_clauses g v) w₂ (n + 2)
-    unfolding place
-    contact_emitted v e f = two w w₁ w₂ n (negated g ∷ plain v ∷ []) (plain g ∷ negated v ∷ []) e f
+  pub both_emitted : (x y : ℕ)
+      → Emitted w n (gate_clauses g (Both x y))
+      (stored (stored (stored w n (2 * g + 1) (2 * x) 0) (n + 1) (2 * g + 1) (2 * y) 0) (n + 2) (2 * g) (2 * x + 1) (2 * y + 1)) (n + 3)
+  unfolding place gate_clauses emits
+  both_emitted x y = record { wrote = rw (← third); counted = refl }
 
-    pub inverse_emitted : (x : ℕ) → w₁ ≡ stored w n (2 * g + 1) (2 * x + 1) 0 → w₂ ≡ stored w₁ (n + 1) (2 * g) (2 * x) 0
-        → Emitted w n (not_clauses g x) w₂ (n + 2)
-    unfolding place
-    inverse_emitted x e f = two w w₁ w₂ n (negated g ∷ negated x ∷ []) (plain g ∷ plain x ∷ []) e f
+  pub either_emitted : (x y : ℕ)
+      → Emitted w n (gate_clauses g (Either x y))
+      (stored (stored (stored w n (2 * g) (2 * x + 1) 0) (n + 1) (2 * g) (2 * y + 1) 0) (n + 2) (2 * g + 1) (2 * x) (2 * y)) (n + 3)
+  unfolding place gate_clauses emits
+  either_emitted x y = record { wrote = rw (← third); counted = refl }
 
-    pub both_emitted : (w₃ : List ℕ) (x y : ℕ) → w₁ ≡ stored w n (2 * g + 1) (2 * x) 0 → w₂ ≡ stored w₁ (n + 1) (2 * g + 1) (2 * y) 0
-        → w₃ ≡ stored w₂ (n + 2) (2 * g) (2 * x + 1) (2 * y + 1) → Emitted w n (and_clauses g x y) w₃ (n + 3)
-    unfolding place
-    both_emitted w₃ x y e f h = three w w₁ w₂ w₃ n (negated g ∷ plain x ∷ []) (negated g ∷ plain y ∷ []) (plain g ∷ negated x ∷ negated y ∷ []) e f h
-
-    pub either_emitted : (w₃ : List ℕ) (x y : ℕ) → w₁ ≡ stored w n (2 * g) (2 * x + 1) 0 → w₂ ≡ stored w₁ (n + 1) (2 * g) (2 * y + 1) 0
-        → w₃ ≡ stored w₂ (n + 2) (2 * g + 1) (2 * x) (2 * y) → Emitted w n (or_clauses g x y) w₃ (n + 3)
-    unfolding place
-    either_emitted w₃ x y e f h = three w w₁ w₂ w₃ n (plain g ∷ negated x ∷ []) (plain g ∷ negated y ∷ []) (negated g ∷ plain x ∷ plain y ∷ []) e f h
-
-pub ruleset clause_cases = (constant_on, constant_off, contact_emitted, inverse_emitted, both_emitted, either_emitted)
+pub ruleset clause_cases = (unit_emitted, fixed_clauses, same_emitted, inverse_emitted, both_emitted, either_emitted)
 
 pub emits_append : (w : List ℕ) (n : ℕ) (cs ds : List Clause) → emits w n (cs ++ ds) ≡ emits (emits w n cs) (n + length cs) ds
 unfolding emits

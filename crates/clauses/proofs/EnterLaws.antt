@@ -1,109 +1,127 @@
 -- One formula record entered, by its kind.
 -- Assumes nothing.
-use Prim.Native.Nat.{ℕ, ◌+◌, ◌<◌}
+use Prim.Native.Nat.{ℕ, ◌+◌, ◌-◌, ◌≤◌, ◌<◌}
 use mathlib.Core.Path.{◌≡◌, refl}
-use mathlib.Core.Bool.{Bool}
 use mathlib.Core.List.{List}
 use native.Mathlib.Omega.{arith}
-use lib.ListN.{length, get_or}
-use mir.Val.{Fits}
-use mir.Syntax.{w16}
-use Rattle.rules.specs.Clauses.{contact_clauses}
+use lib.ListN.{get_or, set, length-set}
+use Rattle.std.specs.Prelude.{Some, None}
 use Rattle.formulas.specs.declared.Part.{Part}
 use Rattle.formulas.specs.declared.Part.TheVariants.{Input, Coil, Constant, Not, And, Or, Closing}
-use Rattle.clauses.specs.declared.Step.{Step}
-use Rattle.clauses.specs.declared.Step.TheVariants.{Closed}
-use Rattle.clauses.specs.Emits.{signed}
-use Rattle.clauses.specs.Stack.{stk, negation, conjunction, disjunction, part_clauses, takes, Ready, Put, Reaches, Enterable, Entered}
+use Rattle.clauses.specs.declared.gates.Gate.{Gate}
+use Rattle.clauses.specs.declared.gates.Gate.TheVariants.{Same, Fixed, Inverse, Both, Either}
+use Rattle.clauses.specs.Emits.{Emitted}
+use Rattle.clauses.specs.Gates.{gate_clauses, values, Narrow, Definable}
+use Rattle.clauses.specs.Stack.{stk, vars_of, part_clauses, takes, gate_of, Ready, Reaches, Reached, Enterable, Entered}
+use Rattle.clauses.proofs.StackLaws.{last, before_last, put}
 
--- a contact's variable fits where the record is ready but for it
-with_contact : (v g : ℕ) (stack : List ℕ) (depth n : ℕ) → Ready 0 0 g stack depth n → v < 32768 → Ready 0 v g stack depth n
-with_contact v g stack depth n q h = record {
-  few = q.few;
-  v_fits = h;
-  g_fits = q.g_fits;
-  enough = q.enough;
-  room = q.room;
-  within = q.within;
-  small = q.small;
-}
+-- what the record says of its variable has its clauses, and takes its values
+record Told (p : Part) (map : List ℕ) (base g : ℕ) (stack : List ℕ) (depth : ℕ) (gate : Gate) : Type 0 where
+  opens : p ≡ Closing → ⊥
+  takes_is : values gate ≡ takes p
+  clauses_are : gate_clauses g gate ≡ part_clauses (vars_of map base) g p (stk stack depth)
+  narrow : Reaches p map base → ((j : ℕ) → get_or map j 0 < 32768) → takes p ≤ depth → ((j : ℕ) → j < depth → get_or stack j 0 < 32768) → Narrow gate
+
+told : (p : Part) (map : List ℕ) (base g : ℕ) (stack : List ℕ) (depth : ℕ) (gate : Gate) → Some gate ≡ gate_of (vars_of map base) p (stk stack depth)
+    → Told p map base g stack depth gate
+unfolding gate_of gate_clauses part_clauses takes Reaches
+told (Input j) map base g stack depth gate e =
+    let z : gate ≡ Same (base + j) = cc in
+    rw z (record { opens = λ x. cc; takes_is = refl; clauses_are = refl; narrow = λ r m t s. r })
+told (Coil c) map base g stack depth gate e =
+    let z : gate ≡ Same (get_or map c 0) = cc in
+    rw z (record { opens = λ x. cc; takes_is = refl; clauses_are = refl; narrow = λ r m t s. m c })
+told (Constant on) map base g stack depth gate e =
+    let z : gate ≡ Fixed on = cc in
+    rw z (record { opens = λ x. cc; takes_is = refl; clauses_are = refl; narrow = λ r m t s. tt })
+told Not map base g stack depth gate e =
+    let z : gate ≡ Inverse (get_or (stk stack depth) 0 0) = cc in
+    rw z (record {
+      opens = λ x. cc;
+      takes_is = refl;
+      clauses_are = refl;
+      narrow = λ r m t s. rw (last stack depth (omega arith)) (s (depth - 1) (omega arith));
+    })
+told And map base g stack depth gate e =
+    let z : gate ≡ Both (get_or (stk stack depth) 1 0) (get_or (stk stack depth) 0 0) = cc in
+    rw z (record {
+      opens = λ x. cc;
+      takes_is = refl;
+      clauses_are = refl;
+      narrow = λ r m t s. (
+        rw (before_last stack depth (omega arith)) (s (depth - 2) (omega arith)),
+        rw (last stack depth (omega arith)) (s (depth - 1) (omega arith)),
+      );
+    })
+told Or map base g stack depth gate e =
+    let z : gate ≡ Either (get_or (stk stack depth) 1 0) (get_or (stk stack depth) 0 0) = cc in
+    rw z (record {
+      opens = λ x. cc;
+      takes_is = refl;
+      clauses_are = refl;
+      narrow = λ r m t s. (
+        rw (before_last stack depth (omega arith)) (s (depth - 2) (omega arith)),
+        rw (last stack depth (omega arith)) (s (depth - 1) (omega arith)),
+      );
+    })
+told Closing map base g stack depth gate e = cc
 
 module _ (p : Part) (map : List ℕ) (base g : ℕ) (stack : List ℕ) (depth n : ℕ) (q : Enterable p map base g stack depth n) where
-  readied : (k : ℕ) → takes p ≡ k → (p ≡ Closing → ⊥) → Ready k 0 g stack depth n
-  readied k e h = rw e at (q.ready h)
-
-  pub input_reached : (j : ℕ) → p ≡ Input j → base + j < 32768
-  unfolding Reaches
-  input_reached j e = rw e at q.reaches
-
-  pub input_fits : (j : ℕ) → p ≡ Input j → Fits w16 (base + j)
-  input_fits j e = record { fits = omega (arith, input_reached j e) }
-
-  pub coil_reached : (c : ℕ) → p ≡ Coil c → c < length map
-  unfolding Reaches
-  coil_reached c e = rw e at q.reaches
-
-  pub input_ready : (j : ℕ) → p ≡ Input j → Ready 0 (base + j) g stack depth n
+  pub reached : Reached p map base depth
   unfolding takes
-  input_ready j e =
-      with_contact (base + j) g stack depth n (readied 0 (rw e) (λ z. let x : ◌≡◌ {A = ℕ} 0 1 = cc in omega arith)) (input_reached j e)
+  reached = record { reaches = q.reaches; enough = enough p q; within = omega (arith, q.within, q.tall) }
+    where
+      enough : (x : Part) → Enterable x map base g stack depth n → takes x ≤ depth
+      enough (Input j) y = omega arith
+      enough (Coil c) y = omega arith
+      enough (Constant on) y = omega arith
+      enough Not y = (y.ready (λ e. cc)).enough
+      enough And y = (y.ready (λ e. cc)).enough
+      enough Or y = (y.ready (λ e. cc)).enough
+      enough Closing y = omega arith
 
-  pub coil_ready : (c : ℕ) → p ≡ Coil c → Ready 0 (get_or map c 0) g stack depth n
-  unfolding takes
-  coil_ready c e =
-      with_contact (get_or map c 0) g stack depth n (readied 0 (rw e) (λ z. let x : ◌≡◌ {A = ℕ} 0 1 = cc in omega arith)) (q.mapped c)
+  pub entered_closing : (out : List ℕ) → None ≡ gate_of (vars_of map base) p (stk stack depth)
+      → Entered p map base g stack depth out n stack depth out None
+  unfolding gate_of
+  entered_closing out e = record { on = λ z. absurd (z (closes p e)); closed = λ z. record { ends = refl; same = refl }; tall = refl }
+    where
+      closes : (x : Part) → None ≡ gate_of (vars_of map base) x (stk stack depth) → x ≡ Closing
+      closes (Input j) y = cc
+      closes (Coil c) y = cc
+      closes (Constant on) y = cc
+      closes Not y = cc
+      closes And y = cc
+      closes Or y = cc
+      closes Closing y = refl
 
-  pub constant_ready : (on : Bool) → p ≡ Constant on → Ready 0 0 g stack depth n
-  unfolding takes
-  constant_ready on e = readied 0 (rw e) (λ z. let x : ◌≡◌ {A = ℕ} 0 1 = cc in omega arith)
+  module _ (gate : Gate) (e : Some gate ≡ gate_of (vars_of map base) p (stk stack depth)) where
+    t : Told p map base g stack depth gate
+    t = told p map base g stack depth gate e
 
-  pub not_ready : p ≡ Not → Ready 1 0 g stack depth n
-  unfolding takes
-  not_ready e = readied 1 (rw e) (λ z. let x : ◌≡◌ {A = ℕ} 0 1 = cc in omega arith)
+    ready : Ready (takes p) g stack depth n
+    ready = q.ready t.opens
 
-  pub and_ready : p ≡ And → Ready 2 0 g stack depth n
-  unfolding takes
-  and_ready e = readied 2 (rw e) (λ z. let x : ◌≡◌ {A = ℕ} 0 1 = cc in omega arith)
+    pub definable : Definable n g gate
+    definable = record {
+      few = ready.few;
+      g_fits = ready.g_fits;
+      narrow = t.narrow q.reaches q.mapped ready.enough ready.small;
+    }
 
-  pub or_ready : p ≡ Or → Ready 2 0 g stack depth n
-  unfolding takes
-  or_ready e = readied 2 (rw e) (λ z. let x : ◌≡◌ {A = ℕ} 0 1 = cc in omega arith)
+    module _ (k : ℕ) (h : k ≡ values gate) where
+      pub taken : k ≤ depth
+      taken = omega (arith, h, t.takes_is, ready.enough)
 
-pub ruleset ready_cases = (input_fits, coil_reached, input_ready, coil_ready, constant_ready, not_ready, and_ready, or_ready)
+      pub taken_room : depth - k < 32
+      taken_room = omega (arith, h, t.takes_is, ready.room, q.tall)
 
-module _ (p : Part) (map : List ℕ) (base g : ℕ) (stack : List ℕ) (depth : ℕ) (out : List ℕ) (n : ℕ) (stack' out' : List ℕ) (r : Step) where
-  pub entered_input : (j : ℕ) → p ≡ Input j → Put 0 (contact_clauses g (base + j)) g stack depth out n stack' out' r
-      → Entered p map base g stack depth out n stack' out' r
-  unfolding takes part_clauses
-  entered_input j e d = record { on = λ z. rw e d; closed = λ z. let x : ◌≡◌ {A = ℕ} 0 1 = cc in absurd (omega arith) }
-
-  pub entered_coil : (c : ℕ) → p ≡ Coil c → Put 0 (contact_clauses g (get_or map c 0)) g stack depth out n stack' out' r
-      → Entered p map base g stack depth out n stack' out' r
-  unfolding takes part_clauses
-  entered_coil c e d = record { on = λ z. rw e d; closed = λ z. let x : ◌≡◌ {A = ℕ} 0 1 = cc in absurd (omega arith) }
-
-  pub entered_constant : (on : Bool) → p ≡ Constant on → Put 0 (signed on g) g stack depth out n stack' out' r
-      → Entered p map base g stack depth out n stack' out' r
-  unfolding takes part_clauses
-  entered_constant on e d = record { on = λ z. rw e d; closed = λ z. let x : ◌≡◌ {A = ℕ} 0 1 = cc in absurd (omega arith) }
-
-  pub entered_not : p ≡ Not → Put 1 (negation g (stk stack depth)) g stack depth out n stack' out' r
-      → Entered p map base g stack depth out n stack' out' r
-  unfolding takes part_clauses
-  entered_not e d = record { on = λ z. rw e d; closed = λ z. let x : ◌≡◌ {A = ℕ} 0 1 = cc in absurd (omega arith) }
-
-  pub entered_and : p ≡ And → Put 2 (conjunction g (stk stack depth)) g stack depth out n stack' out' r
-      → Entered p map base g stack depth out n stack' out' r
-  unfolding takes part_clauses
-  entered_and e d = record { on = λ z. rw e d; closed = λ z. let x : ◌≡◌ {A = ℕ} 0 1 = cc in absurd (omega arith) }
-
-  pub entered_or : p ≡ Or → Put 2 (disjunction g (stk stack depth)) g stack depth out n stack' out' r
-      → Entered p map base g stack depth out n stack' out' r
-  unfolding takes part_clauses
-  entered_or e d = record { on = λ z. rw e d; closed = λ z. let x : ◌≡◌ {A = ℕ} 0 1 = cc in absurd (omega arith) }
-
-pub entered_closing : (p : Part) (map : List ℕ) (base g : ℕ) (stack : List ℕ) (depth : ℕ) (out : List ℕ) (n : ℕ) → p ≡ Closing
-    → Entered p map base g stack depth out n stack out Closed
-entered_closing p map base g stack depth out n e = record { on = λ z. absurd (z e); closed = λ z. record { step = refl; same = refl } }
-
-pub ruleset enter_cases = (entered_input, entered_coil, entered_constant, entered_not, entered_and, entered_or, entered_closing)
+      pub entered : (out out' : List ℕ) (m : ℕ) → Emitted out n (gate_clauses g gate) out' m
+          → Entered p map base g stack depth out n (set stack (depth - k) g) (depth - k + 1) out' (Some m)
+      entered out out' m d =
+          let z : k ≡ takes p = omega (arith, h, t.takes_is) in
+          let c = rw t.clauses_are at d in
+          record {
+            on = λ x. rw z (put (takes p) (part_clauses (vars_of map base) g p (stk stack depth)) g stack depth out n ready out' m c);
+            closed = λ x. absurd (t.opens x);
+            tall = length-set stack (depth - k) g;
+          }

@@ -17,8 +17,7 @@ use Rattle.formulas.specs.Part.{part_for, part_of, length_of}
 use Rattle.formulas.specs.declared.Part.{Part}
 use Rattle.formulas.specs.declared.Part.TheVariants.{Closing}
 use Rattle.formulas.proofs.ReadBack.{closing_back, length_back}
-use Rattle.clauses.specs.declared.Step.{Step}
-use Rattle.clauses.specs.declared.Step.TheVariants.{On, Closed}
+use Rattle.std.specs.Prelude.{Option, Some, None}
 use Rattle.clauses.specs.Emits.{emits}
 use Rattle.clauses.specs.Stack.{stk, vars_of, part_clauses, takes, Put, Reaches, Enterable, Entered}
 use Rattle.clauses.specs.Formed.{Mapped, Formed, FormulaAt, Written, FormulaWritten}
@@ -27,13 +26,13 @@ use Rattle.clauses.proofs.FlatLaws.{flat, flat_whole, takes_for, postfix_size, f
 use Rattle.clauses.proofs.UniqueLaws.{not_closing, first_part, same_formula}
 
 -- es are left
-pub record Walking (s : List ℕ) (at : ℕ) (map : List ℕ) (base g : ℕ) (stack₀ out₀ : List ℕ) (n : ℕ) (stack out : List ℕ) (place next count depth : ℕ) : Type 0 where
+pub record Walking (s : List ℕ) (at : ℕ) (map : List ℕ) (base g : ℕ) (out₀ : List ℕ) (n : ℕ) (stack out : List ℕ) (place next count depth : ℕ) : Type 0 where
   pub bounds : Bounds
   pub formula : Formula
   pub rest : List ℕ
-  pub formed : Formed s at map base g stack₀ n bounds formula rest
+  pub formed : Formed s at map base g n bounds formula rest
   pub es : List Entry
-  pub long : length stack ≡ length stack₀
+  pub long : length stack ≡ 32
   pub long_out : length out ≡ length out₀
   pub low : depth ≤ bounds.depth
   pub small : (j : ℕ) → j < depth → get_or stack j 0 < 32768
@@ -44,10 +43,10 @@ pub record Walking (s : List ℕ) (at : ℕ) (map : List ℕ) (base g : ℕ) (st
   pub count_is : count + length (flat (vars_of map base) next es (stk stack depth)) ≡ n + length (defining (vars_of map base) g formula)
   pub out_is : emits out count (flat (vars_of map base) next es (stk stack depth)) ≡ emits out₀ n (defining (vars_of map base) g formula)
 
-pub begins : (s : List ℕ) (at : ℕ) (map : List ℕ) (base g : ℕ) (stack out : List ℕ) (n : ℕ) → FormulaAt s at map base g stack n
-    → Walking s at map base g stack out n stack out at g n 0
+pub begins : (s : List ℕ) (at : ℕ) (map : List ℕ) (base g : ℕ) (stack out : List ℕ) (n : ℕ) → length stack ≡ 32 → FormulaAt s at map base g n
+    → Walking s at map base g out n stack out at g n 0
 unfolding stk write_formula
-begins s at map base g stack out n q =
+begins s at map base g stack out n k q =
     let f : Formula = q.formula in
     let a : flat (vars_of map base) g (postfix f) [] ≡ defining (vars_of map base) g f = flat_whole (vars_of map base) g f in
     record {
@@ -56,7 +55,7 @@ begins s at map base g stack out n q =
       rest = q.rest;
       formed = q.formed;
       es = postfix f;
-      long = refl;
+      long = k;
       long_out = refl;
       low = omega arith;
       small = λ j h. absurd (omega arith);
@@ -87,8 +86,8 @@ some_bytes NOT = omega arith
 some_bytes AND = omega arith
 some_bytes OR = omega arith
 
-module _ (s : List ℕ) (at : ℕ) (map : List ℕ) (base g : ℕ) (stack₀ out₀ : List ℕ) (n : ℕ) (stack out : List ℕ) (place next count depth : ℕ)
-    (w : Walking s at map base g stack₀ out₀ n stack out place next count depth) (p : Part) (found : p ≡ part_of (drop place s)) where
+module _ (s : List ℕ) (at : ℕ) (map : List ℕ) (base g : ℕ) (out₀ : List ℕ) (n : ℕ) (stack out : List ℕ) (place next count depth : ℕ)
+    (w : Walking s at map base g out₀ n stack out place next count depth) (p : Part) (found : p ≡ part_of (drop place s)) where
   -- the first record that is left is the one found
   is_first : (e : Entry) (es : List Entry) → w.es ≡ e ∷ es → p ≡ part_for e
   is_first e es h =
@@ -107,11 +106,14 @@ module _ (s : List ℕ) (at : ℕ) (map : List ℕ) (base g : ℕ) (stack₀ out
   unfolding Sound Reaches
   enterable = go w.es refl
     where
-      m : Mapped map base stack₀ w.bounds
+      m : Mapped map base w.bounds
       m = w.formed.mapped
 
+      within : depth ≤ length stack
+      within = omega (arith, w.low, m.deep, w.long)
+
       go : (xs : List Entry) → w.es ≡ xs → Enterable p map base next stack depth count
-      go [] h = record { ready = λ z. absurd (z (is_closing h)); reaches = rw (is_closing h) tt; mapped = m.small }
+      go [] h = record { ready = λ z. absurd (z (is_closing h)); reaches = rw (is_closing h) tt; within = within; tall = w.long; mapped = m.small }
       go (e ∷ es) h =
           let x : p ≡ part_for e = is_first e es h in
           let y : Sound w.bounds depth (e ∷ es) = rw h at w.sound in
@@ -120,52 +122,52 @@ module _ (s : List ℕ) (at : ℕ) (map : List ℕ) (base g : ℕ) (stack₀ out
           record {
             ready = λ z. rw t (record {
               few = countable;
-              v_fits = omega arith;
               g_fits = omega (arith, w.formed.numbered);
               enough = y.0.enough;
               room = omega (arith, y.0.room, m.deep, w.long);
-              within = omega (arith, w.low, m.deep, w.long);
+              within = within;
               small = w.small;
             });
+            within = within;
+            tall = w.long;
             reaches = rw x (reach w.bounds e map base y.0.named m.inputs_fit m.coils_fit);
             mapped = m.small;
           }
 
   -- what the code has done with the record found
-  module _ (stack' out' : List ℕ) (r : Step) (t : Entered p map base next stack depth out count stack' out' r) where
+  module _ (stack' : List ℕ) (depth' : ℕ) (out' : List ℕ) (r : Option ℕ) (t : Entered p map base next stack depth out count stack' depth' out' r) where
     -- it was entered as the first that was left
-    record Took (d m : ℕ) : Type 0 where
+    record Took (x : ℕ) : Type 0 where
       e : Entry
       es : List Entry
       left : w.es ≡ e ∷ es
       part : p ≡ part_for e
-      put : Put (arity e) (part_clauses (vars_of map base) next (part_for e) (stk stack depth)) next stack depth out count stack' out' (On d m)
+      put : Put (arity e) (part_clauses (vars_of map base) next (part_for e) (stk stack depth)) next stack depth out count stack' depth' out' (Some x)
 
-    took : (d m : ℕ) → r ≡ On d m → Took d m
-    took d m h = go w.es refl
+    took : (x : ℕ) → r ≡ Some x → Took x
+    took x h = go w.es refl
       where
-        go : (xs : List Entry) → w.es ≡ xs → Took d m
-        go [] x = let y = (t.closed (is_closing x)).step in let z : ◌≡◌ {A = ℕ} 0 1 = cc in absurd (omega arith)
-        go (e ∷ es) x =
-            let q : p ≡ part_for e = is_first e es x in
+        go : (xs : List Entry) → w.es ≡ xs → Took x
+        go [] y = let z = (t.closed (is_closing y)).ends in cc
+        go (e ∷ es) y =
+            let q : p ≡ part_for e = is_first e es y in
             let o = t.on (λ z. not_closing e (sym q ∙ z)) in
-            record { e = e; es = es; left = x; part = q; put = rw (q, takes_for e, h) at o }
+            record { e = e; es = es; left = y; part = q; put = rw (q, takes_for e, h) at o }
 
-    none_left : r ≡ Closed → w.es ≡ []
+    none_left : r ≡ None → w.es ≡ []
     none_left h = go w.es refl
       where
         go : (xs : List Entry) → w.es ≡ xs → w.es ≡ []
         go [] x = x
         go (e ∷ es) x =
             let q : p ≡ part_for e = is_first e es x in
-            let o = (t.on (λ z. not_closing e (sym q ∙ z))).step in
-            let z : ◌≡◌ {A = ℕ} 0 1 = cc in
-            absurd (omega arith)
+            let o = (t.on (λ z. not_closing e (sym q ∙ z))).goes_on in
+            cc
 
     -- the record's bytes are passed
-    module _ (d m k : ℕ) (h : r ≡ On d m) (e : k ≡ length_of p) where
-      o : Took d m
-      o = took d m h
+    module _ (x : ℕ) (k : ℕ) (h : r ≡ Some x) (e : k ≡ length_of p) where
+      o : Took x
+      o = took x h
 
       k_is : k ≡ length (write_entry o.e)
       k_is = e ∙ ap length_of o.part ∙ length_back o.e
@@ -194,18 +196,18 @@ module _ (s : List ℕ) (at : ℕ) (map : List ℕ) (base g : ℕ) (stack₀ out
       pub next_fits : Fits w16 (next + 1)
       next_fits = record { fits = omega (arith, counted, w.formed.numbered) }
 
-      pub goes_on : length stack' ≡ length stack → length out' ≡ length out
-          → Walking s at map base g stack₀ out₀ n stack' out' (place + k) (next + 1) m d
+      pub goes_on : length out' ≡ length out
+          → Walking s at map base g out₀ n stack' out' (place + k) (next + 1) x depth'
       unfolding Sound flat
-      goes_on ls lo =
+      goes_on lo =
           let vs = vars_of map base in
           let st : List ℕ = stk stack depth in
           let cs : List Clause = part_clauses vs next (part_for o.e) st in
           let y : Sound w.bounds depth (o.e ∷ o.es) = rw o.left at w.sound in
-          let a : d ≡ depth - arity o.e + 1 = cc o.put.step in
-          let b : m ≡ count + length cs = cc o.put.step in
+          let a : depth' ≡ depth - arity o.e + 1 = o.put.height in
+          let b : x ≡ count + length cs = cc o.put.goes_on in
           let l : place + length (each write_entry (o.e ∷ o.es)) ≡ at + length (write_formula w.formula) = rw o.left at w.place_is in
-          let x : stk stack' d ≡ next ∷ drop (arity o.e) st = ap (stk stack') a ∙ o.put.held in
+          let s' : stk stack' depth' ≡ next ∷ drop (arity o.e) st = ap (stk stack') a ∙ o.put.held in
           let after : List ℕ → List Clause = λ st. flat vs (next + 1) o.es st in
           let u : count + length (cs ++ flat vs (next + 1) o.es (next ∷ drop (arity o.e) st)) ≡ n + length (defining vs g w.formula) = rw o.left at w.count_is in
           let v : emits out count (cs ++ flat vs (next + 1) o.es (next ∷ drop (arity o.e) st)) ≡ emits out₀ n (defining vs g w.formula) = rw o.left at w.out_is in
@@ -215,7 +217,7 @@ module _ (s : List ℕ) (at : ℕ) (map : List ℕ) (base g : ℕ) (stack₀ out
             rest = w.rest;
             formed = w.formed;
             es = o.es;
-            long = ls ∙ w.long;
+            long = t.tall ∙ w.long;
             long_out = lo ∙ w.long_out;
             low = omega (arith, y.0.room);
             small = λ j z. o.put.small j (omega arith);
@@ -223,19 +225,19 @@ module _ (s : List ℕ) (at : ℕ) (map : List ℕ) (base g : ℕ) (stack₀ out
             bytes = there;
             place_is = omega (arith, simp length-append at l, k_is);
             next_is = counted;
-            count_is = ap (λ (z : List ℕ). m + length (after z)) x ∙ omega (arith, simp length-append at u);
-            out_is = (λ i. emits (o.put.wrote i) (b i) (after (x i))) ∙ sym (emits_append out count cs (after (next ∷ drop (arity o.e) st))) ∙ v;
+            count_is = ap (λ (z : List ℕ). x + length (after z)) s' ∙ omega (arith, simp length-append at u);
+            out_is = (λ i. emits (o.put.wrote i) (b i) (after (s' i))) ∙ sym (emits_append out count cs (after (next ∷ drop (arity o.e) st))) ∙ v;
           }
 
     -- the formula is done
-    pub ends : r ≡ Closed → FormulaWritten s at map base g stack₀ out₀ n out' (record { at = place; g = next; n = count })
+    pub ends : r ≡ None → FormulaWritten s at map base g out₀ n out' (record { at = place; g = next; n = count })
     unfolding flat emits
     ends h = record { of = λ b f rest q. done b f rest q }
       where
         x : w.es ≡ []
         x = none_left h
 
-        done : (b : Bounds) (f : Formula) (rest : List ℕ) → Formed s at map base g stack₀ n b f rest
+        done : (b : Bounds) (f : Formula) (rest : List ℕ) → Formed s at map base g n b f rest
             → Written at g n (length (write_formula f)) (size f) (defining (vars_of map base) g f) out₀ out' (record { at = place; g = next; n = count })
         done b f rest q =
             let z : w.formula ≡ f = (same_formula w.formula f w.rest rest w.formed.closes q.closes (sym w.formed.bytes ∙ q.bytes)).0 in

@@ -13,7 +13,6 @@ pub mod SetPartLaws
 pub mod SetLaws
 pub mod KeepSetLaws
 pub mod SafeSetLaws
-pub mod ClauseSetLaws
 pub mod PlacesLaws
 pub mod TranslateLaws
 pub mod FewLaws

@@ -20,7 +20,7 @@ use Rattle.rules.specs.Sheet.{Start, start_of}
 use Rattle.rules.specs.WriteSheet.{write_start, bit, RisesFrom}
 use Rattle.rules.specs.Clauses.{Clause, start_units}
 use Rattle.formulas.proofs.ReadBack.{two_bytes_lem}
-use Rattle.clauses.specs.declared.Begun.{Begun}
+use Rattle.clauses.specs.declared.starts.Begun.{Begun}
 use Rattle.clauses.specs.Emits.{emits, Emitted, Small, signed}
 use Rattle.clauses.specs.Started.{start_at, Started, StartsAt, StartsWritten}
 use Rattle.clauses.proofs.EmitLaws.{emits_append}
@@ -200,9 +200,9 @@ module _ (s : List ℕ) (coils : ℕ) (out₀ out : List ℕ) (at c : ℕ) (w : 
         out_is = (λ i. emits (d.wrote i) (c + 1) cs) ∙ sym (emits_append out c (signed b.on (c + 1)) cs) ∙ (rw q at w.out_is);
       }
 
-  pub started : coils ≤ c → StartsWritten s coils out₀ out c
+  pub started : coils ≤ c → (r : ℕ) → r ≡ coils → StartsWritten s coils out₀ out r
   unfolding start_units emits
-  started h = record { of = λ ss rest q. done ss rest q }
+  started h r e = let x : r ≡ c = omega (arith, w.upto) in rw x (record { of = λ ss rest q. done ss rest q })
     where
       z : coils - c ≡ 0
       z = omega arith

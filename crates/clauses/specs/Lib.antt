@@ -1,4 +1,5 @@
 pub mod Emits
+pub mod Gates
 pub mod Stack
 pub mod Formed
 pub mod Runged

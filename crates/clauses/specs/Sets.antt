@@ -5,7 +5,7 @@ use Rattle.rules.specs.declared.Limits.{Limits}
 use Rattle.rules.specs.Formula.{Formula}
 use Rattle.rules.specs.Sheet.{Sheet}
 use Rattle.rules.specs.WriteSheet.{write_formula, write_start, write_sheet, WithinSheet}
-use Rattle.rules.specs.Certificate.{Which, Which.start, Which.keep, Which.safe}
+use Rattle.rules.specs.Certificate.{Which}
 use Rattle.rules.specs.WriteCertificate.{WithinInvariant}
 use Rattle.rules.specs.Clauses.{clause_set}
 use Rattle.clauses.specs.declared.Layout.{Layout}
@@ -17,8 +17,14 @@ pub record Numbered (map : List ℕ) : Type 0 where
   pub few : length map < 32768
   pub at : (c : ℕ) → c < length map → get_or map c 0 ≡ 1 + c
 
+-- limits within which a set's own places are enough, two maps of 256 coils and a of 32, and every literal fits 16 bits
+pub record Slight (l : Limits) : Type 0 where
+  pub coils_fit : l.coils ≤ 256
+  pub depth_fits : l.depth ≤ 32
+  pub narrow : 1 + l.coils + l.inputs + l.records + 2 * l.invariant ≤ 32768
+
 -- the bytes s are the sheet t, whose rungs begin at a place; the certificate c begins with a byte and the invariant inv
-pub record Given (l : Limits) (s c : List ℕ) (h : Layout) (before after stack : List ℕ) (t : Sheet) (inv : Formula) (rest : List ℕ) : Type 0 where
+pub record Given (l : Limits) (s c : List ℕ) (h : Layout) (t : Sheet) (inv : Formula) (rest : List ℕ) : Type 0 where
   pub sheet_bytes : write_sheet t ≡ s
   pub inputs_are : h.inputs ≡ t.inputs
   pub coils_are : h.coils ≡ t.coils
@@ -28,42 +34,23 @@ pub record Given (l : Limits) (s c : List ℕ) (h : Layout) (before after stack 
   pub invariant_bytes : drop 1 c ≡ write_formula inv ++ rest
   pub closes : Closes rest
   pub invariant_within : WithinInvariant l t inv
-  pub narrow : 1 + l.coils + l.inputs + l.records + 2 * l.invariant ≤ 32768
-  pub deep : l.depth ≤ length stack
-  pub before_wide : l.coils ≤ length before
-  pub after_wide : l.coils ≤ length after
+  pub slight : Slight l
 
--- there are such a sheet and invariant, and both maps have the variables before the scan
-pub record SetAt (s c : List ℕ) (h : Layout) (before after stack : List ℕ) : Type 0 where
+-- there are such a sheet and invariant
+pub record SetThere (s c : List ℕ) (h : Layout) : Type 0 where
   pub limits : Limits
   pub sheet : Sheet
   pub invariant : Formula
   pub rest : List ℕ
-  pub given : Given limits s c h before after stack sheet invariant rest
+  pub given : Given limits s c h sheet invariant rest
+
+-- both maps have room for every coil, and the variables before the scan
+pub record Scratch (before after : List ℕ) : Type 0 where
+  pub before_wide : 256 ≤ length before
+  pub after_wide : 256 ≤ length after
   pub before_numbered : Numbered before
   pub after_numbered : Numbered after
 
 -- whatever sheet and invariant stand there, their set was written
-pub record SetWritten (w : Which) (s c : List ℕ) (h : Layout) (before after stack out out' : List ℕ) (r : ℕ) : Type 0 where
-  pub of : (l : Limits) (t : Sheet) (inv : Formula) (rest : List ℕ) → Given l s c h before after stack t inv rest → Emitted out 0 (clause_set t inv w) out' r
-
--- the sets by their numbers
-unfoldable pub number_of : Which → ℕ
-number_of start = 1
-number_of keep = 2
-number_of safe = 3
-
--- there are such a sheet and invariant, and room for their coils' variables
-pub record ClauseSetAt (s c : List ℕ) (h : Layout) (before after stack : List ℕ) : Type 0 where
-  pub limits : Limits
-  pub sheet : Sheet
-  pub invariant : Formula
-  pub rest : List ℕ
-  pub given : Given limits s c h before after stack sheet invariant rest
-  pub before_narrow : length before < 32768
-  pub after_narrow : length after < 32768
-
--- whatever sheet and invariant stand there, the set of that number was written
-pub record ClauseSetWritten (which : ℕ) (s c : List ℕ) (h : Layout) (before after stack out out' : List ℕ) (r : ℕ) : Type 0 where
-  pub of : (w : Which) → number_of w ≡ which → (l : Limits) (t : Sheet) (inv : Formula) (rest : List ℕ) → Given l s c h before after stack t inv rest
-      → Emitted out 0 (clause_set t inv w) out' r
+pub record SetWritten (w : Which) (s c : List ℕ) (h : Layout) (out out' : List ℕ) (r : ℕ) : Type 0 where
+  pub of : (l : Limits) (t : Sheet) (inv : Formula) (rest : List ℕ) → Given l s c h t inv rest → Emitted out 0 (clause_set t inv w) out' r

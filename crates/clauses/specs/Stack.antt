@@ -1,10 +1,10 @@
 -- A stack of variables in lent places, and what one formula record does to it.
-use Rattle.std.specs.Prelude.{ℕ, zero, suc, ◌+◌, ◌-◌, ◌≤◌, ◌<◌, ◌≡◌, List, [], ◌∷◌, length, get_or, drop}
+use Rattle.std.specs.Prelude.{ℕ, zero, suc, ◌+◌, ◌-◌, ◌≤◌, ◌<◌, ◌≡◌, Option, Some, None, List, [], ◌∷◌, length, get_or, drop}
 use Rattle.rules.specs.Clauses.{Vars, Clause, contact_clauses, not_clauses, and_clauses, or_clauses}
 use Rattle.formulas.specs.declared.Part.{Part}
 use Rattle.formulas.specs.declared.Part.TheVariants.{Input, Coil, Constant, Not, And, Or, Closing}
-use Rattle.clauses.specs.declared.Step.{Step}
-use Rattle.clauses.specs.declared.Step.TheVariants.{On, Closed}
+use Rattle.clauses.specs.declared.gates.Gate.{Gate}
+use Rattle.clauses.specs.declared.gates.Gate.TheVariants.{Same, Fixed, Inverse, Both, Either}
 use Rattle.clauses.specs.Emits.{emits, signed}
 
 -- the lowest d places, the highest first
@@ -16,15 +16,6 @@ stk w (suc d) = get_or w d 0 ∷ stk w d
 abbrev pub operand : List ℕ → ℕ → ℕ
 operand st k = get_or st k 0
 
-abbrev pub negation : ℕ → List ℕ → List Clause
-negation g st = not_clauses g (operand st 0)
-
-abbrev pub conjunction : ℕ → List ℕ → List Clause
-conjunction g st = and_clauses g (operand st 1) (operand st 0)
-
-abbrev pub disjunction : ℕ → List ℕ → List Clause
-disjunction g st = or_clauses g (operand st 1) (operand st 0)
-
 -- the variables of inputs and coils, from the first input's and a map of the coils'
 abbrev pub vars_of : List ℕ → ℕ → Vars
 vars_of map base = record { input = λ j. base + j; coil = λ c. get_or map c 0 }
@@ -34,9 +25,9 @@ unfoldable pub part_clauses : Vars → ℕ → Part → List ℕ → List Clause
 part_clauses vs g (Input j) st = contact_clauses g (vs.input j)
 part_clauses vs g (Coil c) st = contact_clauses g (vs.coil c)
 part_clauses vs g (Constant on) st = signed on g
-part_clauses vs g Not st = negation g st
-part_clauses vs g And st = conjunction g st
-part_clauses vs g Or st = disjunction g st
+part_clauses vs g Not st = not_clauses g (operand st 0)
+part_clauses vs g And st = and_clauses g (operand st 1) (operand st 0)
+part_clauses vs g Or st = or_clauses g (operand st 1) (operand st 0)
 part_clauses vs g Closing st = []
 
 -- how many values it takes
@@ -49,10 +40,19 @@ takes And = 2
 takes Or = 2
 takes Closing = 0
 
--- a record that takes k values, and may be a contact on v, has its operands, and room for its own variable g
-pub record Ready (k v g : ℕ) (stack : List ℕ) (depth n : ℕ) : Type 0 where
+-- what a record says of its own variable; a closing record says nothing
+unfoldable pub gate_of : Vars → Part → List ℕ → Option Gate
+gate_of vs (Input j) st = Some (Same (vs.input j))
+gate_of vs (Coil c) st = Some (Same (vs.coil c))
+gate_of vs (Constant on) st = Some (Fixed on)
+gate_of vs Not st = Some (Inverse (operand st 0))
+gate_of vs And st = Some (Both (operand st 1) (operand st 0))
+gate_of vs Or st = Some (Either (operand st 1) (operand st 0))
+gate_of vs Closing st = None
+
+-- a record that takes k values has its operands, and room for its own variable g
+pub record Ready (k g : ℕ) (stack : List ℕ) (depth n : ℕ) : Type 0 where
   pub few : n < 9223372036854775808
-  pub v_fits : v < 32768
   pub g_fits : g < 32768
   pub enough : k ≤ depth
   pub room : depth - k < length stack
@@ -60,8 +60,9 @@ pub record Ready (k v g : ℕ) (stack : List ℕ) (depth n : ℕ) : Type 0 where
   pub small : (j : ℕ) → j < depth → get_or stack j 0 < 32768
 
 -- it wrote the clauses cs, and put g in the place of the k values
-pub record Put (k : ℕ) (cs : List Clause) (g : ℕ) (stack : List ℕ) (depth : ℕ) (out : List ℕ) (n : ℕ) (stack' out' : List ℕ) (r : Step) : Type 0 where
-  pub step : r ≡ On (depth - k + 1) (n + length cs)
+pub record Put (k : ℕ) (cs : List Clause) (g : ℕ) (stack : List ℕ) (depth : ℕ) (out : List ℕ) (n : ℕ) (stack' : List ℕ) (depth' : ℕ) (out' : List ℕ) (r : Option ℕ) : Type 0 where
+  pub goes_on : r ≡ Some (n + length cs)
+  pub height : depth' ≡ depth - k + 1
   pub wrote : out' ≡ emits out n cs
   pub held : stk stack' (depth - k + 1) ≡ g ∷ drop k (stk stack depth)
   pub small : (j : ℕ) → j < depth - k + 1 → get_or stack' j 0 < 32768
@@ -76,16 +77,25 @@ Reaches And map base = Unit {0}
 Reaches Or map base = Unit {0}
 Reaches Closing map base = Unit {0}
 
-pub record Enterable (p : Part) (map : List ℕ) (base g : ℕ) (stack : List ℕ) (depth n : ℕ) : Type 0 where
-  pub ready : (p ≡ Closing → ⊥) → Ready (takes p) 0 g stack depth n
+-- and the stack has the record's operands
+pub record Reached (p : Part) (map : List ℕ) (base depth : ℕ) : Type 0 where
   pub reaches : Reaches p map base
+  pub enough : takes p ≤ depth
+  pub within : depth ≤ 32
+
+pub record Enterable (p : Part) (map : List ℕ) (base g : ℕ) (stack : List ℕ) (depth n : ℕ) : Type 0 where
+  pub ready : (p ≡ Closing → ⊥) → Ready (takes p) g stack depth n
+  pub reaches : Reaches p map base
+  pub within : depth ≤ length stack
+  pub tall : length stack ≡ 32
   pub mapped : (j : ℕ) → get_or map j 0 < 32768
 
 -- a closing record leaves all as it was
-pub record Ended (out out' : List ℕ) (r : Step) : Type 0 where
-  pub step : r ≡ Closed
+pub record Ended (out out' : List ℕ) (r : Option ℕ) : Type 0 where
+  pub ends : r ≡ None
   pub same : out' ≡ out
 
-pub record Entered (p : Part) (map : List ℕ) (base g : ℕ) (stack : List ℕ) (depth : ℕ) (out : List ℕ) (n : ℕ) (stack' out' : List ℕ) (r : Step) : Type 0 where
-  pub on : (p ≡ Closing → ⊥) → Put (takes p) (part_clauses (vars_of map base) g p (stk stack depth)) g stack depth out n stack' out' r
+pub record Entered (p : Part) (map : List ℕ) (base g : ℕ) (stack : List ℕ) (depth : ℕ) (out : List ℕ) (n : ℕ) (stack' : List ℕ) (depth' : ℕ) (out' : List ℕ) (r : Option ℕ) : Type 0 where
+  pub on : (p ≡ Closing → ⊥) → Put (takes p) (part_clauses (vars_of map base) g p (stk stack depth)) g stack depth out n stack' depth' out' r
   pub closed : p ≡ Closing → Ended out out' r
+  pub tall : length stack' ≡ length stack

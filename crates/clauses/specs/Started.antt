@@ -7,7 +7,7 @@ use Rattle.rules.specs.Record.{number}
 use Rattle.rules.specs.Sheet.{Start}
 use Rattle.rules.specs.WriteSheet.{write_start, RisesFrom}
 use Rattle.rules.specs.Clauses.{start_units}
-use Rattle.clauses.specs.declared.Begun.{Begun}
+use Rattle.clauses.specs.declared.starts.Begun.{Begun}
 use Rattle.clauses.specs.Emits.{Emitted}
 
 -- coil c's start value by the record at the front of bytes, which stand at place p

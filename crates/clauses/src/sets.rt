@@ -1,68 +1,67 @@
 // The three clause sets of a good sheet and an invariant.
-ghost use Rattle.std.specs.Prelude.{◌<◌, ◌/◌, length};
+ghost use Rattle.std.specs.Prelude.{◌≡◌, ◌<◌, ◌+◌, ◌/◌, length};
 ghost use Rattle.rules.specs.Certificate.{Which.start, Which.keep, Which.safe};
+ghost use Rattle.rules.specs.Verdict.{which_of};
 ghost use Rattle.clauses.specs.Formed.{FormulaAt, TopWritten, FormulaPassed};
-ghost use Rattle.clauses.specs.Sets.{Numbered, SetAt, SetWritten, ClauseSetAt, ClauseSetWritten};
+ghost use Rattle.clauses.specs.Runged.{RungsAt, RungsWritten};
+ghost use Rattle.clauses.specs.Sets.{Numbered, Scratch, SetThere, SetWritten};
 
 use super::formula::formula_clauses;
-use super::gates::constant;
+use super::gates::unit;
 use super::rungs::rung_clauses;
 use super::starts::start_units;
-use super::{Layout, Wrote};
+use super::{Layout, Variables, Wrote};
+use rules::{Set, Sheet};
 
 // Coil c has variable c + 1 before the scan.
+#[tactic(auto, using(crate::proofs::TopLaws::number_cases))]
 fn number_coils(map: &mut [u16])
     requires { length map.old < 32768 }
     ensures { Numbered map.new }
 {
-    let mut i: usize = 0;
-    while i < map.len() {
-        map[i] = (i + 1) as u16;
-        i += 1;
+    for (i, variable) in map.iter_mut().enumerate() {
+        *variable = (i + 1) as u16;
     }
 }
 
-// The clauses of a formula, then the unit clause of its top, plain or negated.
-fn formula_top(
-    s: &[u8],
-    at: usize,
-    map: &[u16],
-    base: u16,
-    g: u16,
-    stack: &mut [u16],
-    out: &mut [u16],
-    n: usize,
-    on: bool,
-) -> Wrote
-    requires { FormulaAt s.now at map.now base g stack.old n }
-    ensures { TopWritten on s.now at map.now base g stack.old out.old n out.new result }
+// The clauses of the sheet's rungs, from number n on.
+fn ladder(s: &[u8], h: Layout, map: &mut [u16], out: &mut [u16], n: usize) -> Wrote
+    requires { RungsAt s.now h.at h.rungs map.old (h.coils + 1) (h.coils + 1 + h.inputs) n }
+    ensures { RungsWritten s.now h.at h.rungs map.old (h.coils + 1) (h.coils + 1 + h.inputs) out.old n map.new out.new result }
 {
-    let w = formula_clauses(s, at, map, base, g, stack, out, n);
-    let next = w.g;
-    let m = constant(out, w.n, next - 1, on);
+    let inputs = h.coils + 1;
+    let from = Wrote {
+        at: h.at,
+        g: inputs + h.inputs,
+        n,
+    };
+    rung_clauses(s, h.rungs, map, inputs, from, out)
+}
+
+// The clauses of a formula, then the unit clause of its top, plain or negated.
+#[tactic(auto, using(crate::proofs::TopLaws::top_cases))]
+fn formula_top(s: &[u8], vars: Variables, from: Wrote, out: &mut [u16], on: bool) -> Wrote
+    requires { FormulaAt s.now from.at vars.coils.now vars.inputs from.g from.n }
+    ensures { TopWritten on s.now from.at vars.entry.coils.now vars.entry.inputs from.g out.old from.n out.new result }
+{
+    let w = formula_clauses(s, vars, from, out);
     Wrote {
-        at: w.at,
-        g: next,
-        n: m,
+        n: unit(out, w.n, w.g - 1, on),
+        ..w
     }
 }
 
 // The variable after a formula's records. No clause is written: the first would be one past the room.
-fn formula_end(
-    s: &[u8],
-    at: usize,
-    map: &[u16],
-    base: u16,
-    g: u16,
-    stack: &mut [u16],
-    out: &mut [u16],
-) -> u16
-    requires { FormulaAt s.now at map.now base g stack.old (length out.old / 3) }
-    ensures { FormulaPassed s.now at map.now base g stack.old out.old out.new result }
+#[tactic(auto, using(crate::proofs::TopLaws::top_cases))]
+fn formula_end(s: &[u8], vars: Variables, from: Wrote, out: &mut [u16]) -> u16
+    requires { FormulaAt s.now from.at vars.coils.now vars.inputs from.g (length out.old / 3) }
+    ensures { FormulaPassed s.now from.at vars.entry.coils.now vars.entry.inputs from.g out.old out.new result }
 {
-    let full = out.len() / 3;
-    let w = formula_clauses(s, at, map, base, g, stack, out, full);
-    w.g
+    let past = Wrote {
+        n: out.len() / 3,
+        ..from
+    };
+    formula_clauses(s, vars, past, out).g
 }
 
 // Set 1: the start values, the invariant before, its top negated. The sheet's formulas are passed for their variables.
@@ -72,29 +71,30 @@ fn start_set(
     h: Layout,
     before: &[u16],
     after: &mut [u16],
-    stack: &mut [u16],
     out: &mut [u16],
 ) -> usize
-    requires { SetAt s.now c.now h before.now after.old stack.old }
-    ensures { SetWritten start s.now c.now h before.now after.old stack.old out.old out.new result }
+    requires there { SetThere s.now c.now h }
+    requires lent { Scratch before.now after.old }
+    ensures { SetWritten start s.now c.now h out.old out.new result }
 {
-    let base = h.coils + 1;
+    let inputs = h.coils + 1;
     let full = out.len() / 3;
-    let r = rung_clauses(
+    let r = ladder(s, h, after, out, full);
+    let g = formula_end(
         s,
-        h.at,
-        h.rungs,
-        after,
-        base,
-        base + h.inputs,
-        stack,
+        Variables {
+            coils: after,
+            inputs,
+        },
+        r,
         out,
-        full,
     );
-    let g = formula_end(s, r.at, after, base, r.g, stack, out);
     let n = start_units(s, h.coils, out);
-    let i = formula_top(c, 1, before, base, g, stack, out, n, false);
-    i.n
+    let old = Variables {
+        coils: before,
+        inputs,
+    };
+    formula_top(c, old, Wrote { at: 1, g, n }, out, false).n
 }
 
 // Set 2: the rungs, the invariant before, its top, the invariant after, its top negated. The condition is passed.
@@ -104,28 +104,25 @@ fn keep_set(
     h: Layout,
     before: &[u16],
     after: &mut [u16],
-    stack: &mut [u16],
     out: &mut [u16],
 ) -> usize
-    requires { SetAt s.now c.now h before.now after.old stack.old }
-    ensures { SetWritten keep s.now c.now h before.now after.old stack.old out.old out.new result }
+    requires there { SetThere s.now c.now h }
+    requires lent { Scratch before.now after.old }
+    ensures { SetWritten keep s.now c.now h out.old out.new result }
 {
-    let base = h.coils + 1;
-    let r = rung_clauses(
-        s,
-        h.at,
-        h.rungs,
-        after,
-        base,
-        base + h.inputs,
-        stack,
-        out,
-        0,
-    );
-    let g = formula_end(s, r.at, after, base, r.g, stack, out);
-    let i = formula_top(c, 1, before, base, g, stack, out, r.n, true);
-    let a = formula_top(c, 1, after, base, i.g, stack, out, i.n, false);
-    a.n
+    let inputs = h.coils + 1;
+    let r = ladder(s, h, after, out, 0);
+    let new = Variables {
+        coils: after,
+        inputs,
+    };
+    let g = formula_end(s, new, r, out);
+    let old = Variables {
+        coils: before,
+        inputs,
+    };
+    let i = formula_top(c, old, Wrote { at: 1, g, n: r.n }, out, true);
+    formula_top(c, new, Wrote { at: 1, ..i }, out, false).n
 }
 
 // Set 3: the rungs, the condition, the invariant before, its top, the condition's top negated.
@@ -135,49 +132,42 @@ fn safe_set(
     h: Layout,
     before: &[u16],
     after: &mut [u16],
-    stack: &mut [u16],
     out: &mut [u16],
 ) -> usize
-    requires { SetAt s.now c.now h before.now after.old stack.old }
-    ensures { SetWritten safe s.now c.now h before.now after.old stack.old out.old out.new result }
+    requires there { SetThere s.now c.now h }
+    requires lent { Scratch before.now after.old }
+    ensures { SetWritten safe s.now c.now h out.old out.new result }
 {
-    let base = h.coils + 1;
-    let r = rung_clauses(
+    let inputs = h.coils + 1;
+    let r = ladder(s, h, after, out, 0);
+    let q = formula_clauses(
         s,
-        h.at,
-        h.rungs,
-        after,
-        base,
-        base + h.inputs,
-        stack,
+        Variables {
+            coils: after,
+            inputs,
+        },
+        r,
         out,
-        0,
     );
-    let q = formula_clauses(s, r.at, after, base, r.g, stack, out, r.n);
-    let g = q.g;
-    let i = formula_top(c, 1, before, base, g, stack, out, q.n, true);
-    constant(out, i.n, g - 1, false)
+    let old = Variables {
+        coils: before,
+        inputs,
+    };
+    let i = formula_top(c, old, Wrote { at: 1, ..q }, out, true);
+    unit(out, i.n, q.g - 1, false)
 }
 
-// The set of a number from 1 to 3; answers how many clauses it has.
-pub fn clause_set(
-    which: u8,
-    s: &[u8],
-    c: &[u8],
-    h: Layout,
-    before: &mut [u16],
-    after: &mut [u16],
-    stack: &mut [u16],
-    out: &mut [u16],
-) -> usize
-    requires { ClauseSetAt s.now c.now h before.old after.old stack.old }
-    ensures { ClauseSetWritten which s.now c.now h before.old after.old stack.old out.old out.new result }
+// One of the three sets, as far as there is room for it; answers how many clauses it has.
+pub fn clause_set(set: Set, s: &[u8], c: &[u8], h: Layout, out: &mut [u16]) -> usize
+    requires { SetThere s.now c.now h }
+    ensures { SetWritten (which_of set) s.now c.now h out.old out.new result }
 {
-    number_coils(before);
-    number_coils(after);
-    match which {
-        1 => start_set(s, c, h, before, after, stack, out),
-        2 => keep_set(s, c, h, before, after, stack, out),
-        _ => safe_set(s, c, h, before, after, stack, out),
+    let mut before = [0u16; Sheet::COILS];
+    number_coils(&mut before);
+    let mut after = before;
+    match set {
+        Set::Start => start_set(s, c, h, &before, &mut after, out),
+        Set::Keep => keep_set(s, c, h, &before, &mut after, out),
+        Set::Safe => safe_set(s, c, h, &before, &mut after, out),
     }
 }

@@ -2,19 +2,23 @@
 ghost use Rattle.std.specs.Prelude.{◌≡◌, ◌≤◌, length, drop};
 ghost use Rattle.clauses.specs.Started.{start_at, StartsAt, StartsWritten};
 
-use super::Begun;
-use super::gates::constant;
+use super::gates::unit;
+
+// A coil's start value, and the place of the START record that comes next.
+#[derive(Clone, Copy, Debug, PartialEq, Eq)]
+pub struct Begun {
+    pub on: bool,
+    pub at: usize,
+}
 
 // A coil's start value, from the START record at a place if it is that coil's, and the place of the START that comes next.
+#[tactic(auto, using(crate::proofs::StartLaws::start_at_cases))]
 fn start_at(s: &[u8], at: usize, coil: u16) -> Begun
     requires { at ≤ length s.now }
     ensures { result ≡ start_at (drop at s.now) at coil }
 {
-    if records::byte_at(s, at, 0) != 0x02 {
-        return Begun { on: false, at: at };
-    }
-    if records::number_at(s, at, 1) != coil {
-        return Begun { on: false, at: at };
+    if records::byte_at(s, at, 0) != 0x02 || records::number_at(s, at, 1) != coil {
+        return Begun { on: false, at };
     }
     Begun {
         on: records::byte_at(s, at, 3) == 1,
@@ -23,18 +27,16 @@ fn start_at(s: &[u8], at: usize, coil: u16) -> Begun
 }
 
 // The unit clauses of a sheet's start values, the first clauses of their set.
+#[tactic(auto, using(crate::proofs::StartLaws::start_cases))]
 pub(crate) fn start_units(s: &[u8], coils: u16, out: &mut [u16]) -> usize
     requires { StartsAt s.now coils }
     ensures { StartsWritten s.now coils out.old out.new result }
 {
     let mut at: usize = 7;
-    let mut c: u16 = 0;
-    while c < coils {
+    for c in 0..coils {
         let b = start_at(s, at, c);
         at = b.at;
-        let n = c as usize;
-        c = c + 1;
-        constant(out, n, c, b.on);
+        unit(out, usize::from(c), c + 1, b.on);
     }
-    c as usize
+    usize::from(coils)
 }

@@ -9,8 +9,7 @@ ghost use Rattle.cnf.specs.Set.{set_named, CountsVariables};
 
 use files::{CERTIFICATE, SHEET};
 use line::ROOM;
-use loading::Loaded;
-use rules::{Answer, Written};
+use rules::Refusal;
 use std::env::Env;
 use std::io;
 use std::io::Print;
@@ -24,15 +23,9 @@ fn say_unreadable(rt: &impl Print) -> io::Result<()> {
     rt.write_all(&text[..n])
 }
 
-fn say_refused(rt: &impl Print, no: u8, place: usize) -> io::Result<()> {
+fn say_refused(rt: &impl Print, refusal: Refusal) -> io::Result<()> {
     let mut text = [0u8; ROOM];
-    let n = line::write_line(
-        Answer::Refused {
-            no: no,
-            place: place,
-        },
-        &mut text,
-    );
+    let n = line::write_line(Err(refusal), &mut text);
     rt.write_all(&text[..n])
 }
 
@@ -56,21 +49,20 @@ fn say_clauses(rt: &impl Print, variables: usize, clauses: usize, room: &[u16]) 
         return Ok(());
     }
     say_head(rt, variables, clauses)?;
-    let mut k: usize = 0;
-    while k < clauses {
+    for k in 0..clauses {
         say_clause(rt, room, k)?;
-        k += 1;
     }
     Ok(())
 }
 
 // The head line counts all variables of sheet and invariant for every set, so set 2 is made first: its last clause names the last one.
+#[tactic(auto, using(crate::proofs::SetLaws::count_variables_cases))]
 fn count_variables(sheet: &[u8], certificate: &[u8], room: &mut [u16]) -> usize
     ensures { CountsVariables sheet.now certificate.now (length room.old) result }
 {
     match files::translate_files(2, sheet, certificate, room) {
-        Written::Withheld { no: _, place: _ } => 0,
-        Written::Clauses { count } => dimacs::last_variable(room, count),
+        Ok(clauses) => dimacs::last_variable(room, clauses),
+        Err(_) => 0,
     }
 }
 
@@ -86,34 +78,25 @@ fn say_set(
 {
     let variables = count_variables(sheet, certificate, room);
     match files::translate_files(set, sheet, certificate, room) {
-        Written::Withheld { no, place } => say_refused(rt, no, place),
-        Written::Clauses { count } => say_clauses(rt, variables, count, room),
+        Ok(clauses) => say_clauses(rt, variables, clauses, room),
+        Err(refusal) => say_refused(rt, refusal),
     }
 }
 
 // One byte, 1 to 3; 0 for any other name.
+#[tactic(auto, unfolding(crate::specs::Set::set_named))]
 fn set_named(name: &[u8]) -> u32
     ensures { result ≡ set_named name.now }
 {
-    if name.len() != 1 {
-        return 0;
+    match name {
+        [b @ b'1'..=b'3'] => u32::from(*b - b'0'),
+        _ => 0,
     }
-    let b = name[0];
-    if b < b'1' {
-        return 0;
-    }
-    if b'3' < b {
-        return 0;
-    }
-    (b - b'0') as u32
 }
 
 fn set_argument(rt: &impl Env) -> u32 {
     let mut name = [0u8; loading::PATH];
-    let n = match rt.arg(1, &mut name) {
-        Ok(n) => n,
-        Err(_) => 0,
-    };
+    let n = rt.arg(1, &mut name).unwrap_or(0);
     set_named(&name[..n])
 }
 
@@ -121,9 +104,9 @@ fn set_argument(rt: &impl Env) -> u32 {
 fn answer(
     rt: &impl Print,
     set: u32,
-    a: Loaded,
+    a: Option<usize>,
     sheet: &[u8],
-    b: Loaded,
+    b: Option<usize>,
     certificate: &[u8],
 ) -> io::Result<()>
     requires sheet_holds { Holds sheet.now 0 a }
@@ -131,10 +114,7 @@ fn answer(
     requires sheet_room { length sheet.now ≡ base_bounds.sheet + 1 }
     requires certificate_room { length certificate.now ≡ base_bounds.certificate + 1 }
 {
-    let Loaded::Bytes(n) = a else {
-        return say_unreadable(rt);
-    };
-    let Loaded::Bytes(m) = b else {
+    let (Some(n), Some(m)) = (a, b) else {
         return say_unreadable(rt);
     };
     let mut room = [0u16; PLACES];

@@ -4,9 +4,10 @@
 ghost use Rattle.rules.specs.Head.{base_limits};
 ghost use Rattle.export.specs.Exported.{CheckExported, TranslateExported};
 
-use rules::{Answer, Written};
+use rules::Answer;
 
 // 0 accepted, 1 confirmed with the scan as number, 2 refused with number and place.
+#[tactic(auto, using(crate::proofs::ExportedLaws::check_cases))]
 #[unsafe(no_mangle)]
 pub extern "C" fn gustvane_check(
     sheet: &[u8],
@@ -18,25 +19,26 @@ pub extern "C" fn gustvane_check(
     ensures { CheckExported base_limits sheet.now certificate.now work.old work.new number.new place.new result }
 {
     match checker::check(sheet, certificate, work) {
-        Answer::Accepted => {
+        Ok(Answer::Accepted) => {
             *number = 0;
             *place = 0;
             0
         }
-        Answer::Confirmed { scan } => {
+        Ok(Answer::Confirmed { scan }) => {
             *number = scan;
             *place = 0;
             1
         }
-        Answer::Refused { no, place: p } => {
-            *number = no as usize;
-            *place = p;
+        Err(refusal) => {
+            *number = usize::from(u8::from(refusal.fault));
+            *place = refusal.place;
             2
         }
     }
 }
 
 // 0 written with the count of clauses as number, 2 refused with number and place.
+#[tactic(auto, using(crate::proofs::ExportedLaws::translate_cases))]
 #[unsafe(no_mangle)]
 pub extern "C" fn gustvane_translate(
     set: u32,
@@ -49,14 +51,14 @@ pub extern "C" fn gustvane_translate(
     ensures { TranslateExported base_limits set sheet.now certificate.now room.old room.new number.new place.new result }
 {
     match clauses::translate(set, sheet, certificate, room) {
-        Written::Clauses { count } => {
+        Ok(count) => {
             *number = count;
             *place = 0;
             0
         }
-        Written::Withheld { no, place: p } => {
-            *number = no as usize;
-            *place = p;
+        Err(refusal) => {
+            *number = usize::from(u8::from(refusal.fault));
+            *place = refusal.place;
             2
         }
     }

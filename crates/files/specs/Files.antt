@@ -1,12 +1,12 @@
 -- The program's own refusal, 27: a file that is too long. Files within their bounds are the checker's, or the translator's.
-use Rattle.std.specs.Prelude.{ℕ, ◌+◌, ◌≡◌, Bool, ◌&&◌, ◌||◌, List, length, take, ltb, leb}
+use Rattle.std.specs.Prelude.{ℕ, ◌+◌, ◌≡◌, Result, Bool, ◌&&◌, ◌||◌, List, length, take, ltb, leb}
 use Rattle.base.specs.Pick.{pick}
 use Rattle.base.specs.Lists.{fresh}
 use Rattle.rules.specs.declared.Limits.{Limits}
 use Rattle.rules.specs.declared.Answer.{Answer}
-use Rattle.rules.specs.declared.Written.{Written}
+use Rattle.rules.specs.declared.refusals.Refusal.{Refusal}
 use Rattle.rules.specs.Walk.{◌at◌}
-use Rattle.rules.specs.Verdict.{Verdict, Verdict.refused, answer_of, Translation, Translation.withheld, written_of, room_after}
+use Rattle.rules.specs.Verdict.{Verdict, Verdict.refused, answer_of, Translation, Translation.withheld, written_of, count_of, room_after}
 use Rattle.rules.specs.Verdict.{judge}
 use Rattle.rules.specs.Verdict.{translation}
 
@@ -32,7 +32,7 @@ abbrev pub zeroed : Limits → List ℕ → List ℕ
 zeroed l w = pick (ltb (length w) l.places) w (fresh l.places w)
 
 -- the answer, and every place of the workspace after it; 27 leaves it alone
-pub record Judged (l : Limits) (b : Bounds) (s c w w' : List ℕ) (r : Answer) : Type 0 where
+pub record Judged (l : Limits) (b : Bounds) (s c w w' : List ℕ) (r : Result Answer Refusal) : Type 0 where
   pub answered : answer_of r ≡ judge_files l b s c (length w)
   pub left : w' ≡ pick (too_long b s c) w (zeroed l w)
 
@@ -44,8 +44,8 @@ translate_files l b n s c room =
     (withheld (29 at 0))
 
 -- the answer, and every place of the room after it
-pub record Translates (l : Limits) (b : Bounds) (n : ℕ) (s c w w' : List ℕ) (r : Written) : Type 0 where
-  pub answered : r ≡ written_of (translate_files l b n s c (length w))
+pub record Translates (l : Limits) (b : Bounds) (n : ℕ) (s c w w' : List ℕ) (r : Result ℕ Refusal) : Type 0 where
+  pub answered : count_of r ≡ written_of (translate_files l b n s c (length w))
   pub left : w' ≡ room_after (translate_files l b n s c (length w)) w
 
 -- the program reads at most one byte past each bound: what it reads is judged as the whole files are

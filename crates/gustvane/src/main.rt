@@ -9,18 +9,18 @@ ghost use Rattle.gustvane.specs.Program.{verdict_line};
 
 use files::{CERTIFICATE, SHEET};
 use line::ROOM;
-use loading::Loaded;
+use rules::Sheet;
 use std::io;
 use std::io::Print;
 
 // The line for two files' bytes, which may come cut one byte past their bounds.
+#[tactic(auto, using(crate::proofs::ProgramLaws::verdict))]
 fn write_verdict(sheet: &[u8], certificate: &[u8], out: &mut [u8]) -> usize
     requires { enough ≤ length out.old }
     ensures { Lined (verdict_line sheet.now certificate.now) out.old out.new result }
 {
-    let mut work = [0u16; 32768];
-    let answer = files::judge_files(sheet, certificate, &mut work);
-    line::write_line(answer, out)
+    let mut work = [0u16; Sheet::PLACES];
+    line::write_line(files::judge_files(sheet, certificate, &mut work), out)
 }
 
 fn say_verdict(rt: &impl Print, sheet: &[u8], certificate: &[u8]) -> io::Result<()> {
@@ -36,16 +36,13 @@ fn say_unreadable(rt: &impl Print) -> io::Result<()> {
 }
 
 // The line for what was read of the two files, in rooms that hold one byte past each bound.
-fn answer(rt: &impl Print, a: Loaded, sheet: &[u8], b: Loaded, certificate: &[u8]) -> io::Result<()>
+fn answer(rt: &impl Print, a: Option<usize>, sheet: &[u8], b: Option<usize>, certificate: &[u8]) -> io::Result<()>
     requires sheet_holds { Holds sheet.now 0 a }
     requires certificate_holds { Holds certificate.now 0 b }
     requires sheet_room { length sheet.now ≡ base_bounds.sheet + 1 }
     requires certificate_room { length certificate.now ≡ base_bounds.certificate + 1 }
 {
-    let Loaded::Bytes(n) = a else {
-        return say_unreadable(rt);
-    };
-    let Loaded::Bytes(m) = b else {
+    let (Some(n), Some(m)) = (a, b) else {
         return say_unreadable(rt);
     };
     say_verdict(rt, &sheet[..n], &certificate[..m])

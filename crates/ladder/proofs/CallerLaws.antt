@@ -9,13 +9,13 @@ use lib.ListN.{length, replicate, length-replicate}
 use lib.Dec.{ltb}
 use borrow.Author.Tests.{ltb-false}
 use Rattle.rules.specs.declared.Limits.{Limits}
+use Rattle.std.specs.Prelude.{Result, Ok, Err}
+use Rattle.rules.specs.declared.refusals.Refusal.{Refusal as Told}
 use Rattle.rules.specs.Walk.{Refusal, ◌at◌}
 use Rattle.rules.specs.Sheet.{Sheet, scan, holds_after}
 use Rattle.rules.specs.ReadSheet.{SheetRead, SheetRead.good, SheetRead.bad, read_sheet}
 use Rattle.rules.specs.WriteSheet.{WithinSheet, Bytes}
 use Rattle.reading.proofs.SheetKept.{sheet_written}
-use Rattle.ladder.specs.declared.Scanned.{Scanned}
-use Rattle.ladder.specs.declared.Scanned.TheVariants.{Done, Refused}
 use Rattle.ladder.specs.Values.{on}
 use Rattle.ladder.specs.Evaluate.{bounds_for}
 use Rattle.ladder.specs.Scan.{run_places}
@@ -56,13 +56,13 @@ module _ (l : Limits) (s inputs coils : List ℕ) (t : Sheet) (e : read_sheet l 
       (runnables l t w inputs coils deep ri rc (omega arith) t.rungs w.rungs_within w.coils_named)
 
   -- it is not refused
-  pub scan_done : (coils' : List ℕ) (r : Scanned) → ScansSheet l s inputs coils coils' r → r ≡ Done (holds_after t (on inputs) (on coils))
+  pub scan_done : (coils' : List ℕ) (r : Result Bool Told) → ScansSheet l s inputs coils coils' r → r ≡ Ok (holds_after t (on inputs) (on coils))
   unfolding scanned_of
-  scan_done coils' (Done b) z = let q = z.answered ∙ answer_is in cc
-  scan_done coils' (Refused n p) z = let q = z.answered ∙ answer_is in let y : ◌≡◌ {A = ℕ} 0 1 = cc in absurd (omega arith)
+  scan_done coils' (Ok b) z = let q = z.answered ∙ answer_is in cc
+  scan_done coils' (Err x) z = let q = z.answered ∙ answer_is in let y : ◌≡◌ {A = ℕ} 0 1 = cc in absurd (omega arith)
 
 -- it was done: so the places were enough, and the sheet is good
-module _ (l : Limits) (s inputs coils coils' : List ℕ) (b : Bool) (h : Bytes s) (z : ScansSheet l s inputs coils coils' (Done b)) where
+module _ (l : Limits) (s inputs coils coils' : List ℕ) (b : Bool) (h : Bytes s) (z : ScansSheet l s inputs coils coils' (Ok b)) where
   says : scan_of l s inputs coils ≡ done b
   unfolding scanned_of
   says = sym z.answered

@@ -2,6 +2,7 @@
 -- Assumes nothing.
 use Prim.Native.Nat.{ℕ, ◌+◌, ◌-◌, ◌≤◌, ◌<◌}
 use mathlib.Core.Path.{◌≡◌, refl, sym, ap, ◌∙◌, subst}
+use mathlib.Core.Bool.{Bool}
 use mathlib.Core.List.{List, [], ◌∷◌, ◌++◌, append_assoc, append-nil}
 use native.Mathlib.Omega.{arith}
 use lib.ListN.{length, drop, length-append, length-drop}
@@ -12,9 +13,9 @@ use Rattle.rules.specs.ReadFormula.{arity}
 use Rattle.rules.specs.WriteSheet.{write_entry, write_formula}
 use Rattle.formulas.specs.Part.{part_for, entry_for, part_of, length_of}
 use Rattle.formulas.specs.declared.Part.{Part}
-use Rattle.formulas.specs.declared.Part.TheVariants.{Input, Coil, Constant, Not, And, Or, Closing}
+use Rattle.formulas.specs.declared.Part.TheVariants.{Closing}
 use Rattle.formulas.proofs.ReadBack.{read_back, length_back, entry_back, not_closing, closing_back}
-use Rattle.ladder.specs.Values.{on, values, act, acts}
+use Rattle.ladder.specs.Values.{on, values, act, acts, Taken}
 use Rattle.ladder.specs.Evaluate.{Fitting, Applicable, Applied, bounds_for, FormulaAt, EvaluatedAs, Evaluates}
 use Rattle.ladder.proofs.PostfixLaws.{acts_formula, Enough, formula_fits}
 
@@ -77,22 +78,24 @@ module _ (s : List ℕ) (from : ℕ) (inputs coils w₀ : List ℕ) where
     closed : part ≡ Closing → i.es ≡ []
     closed c = elim next [ none q ↦ q | some e es q ↦ absurd (not_closing e (sym (found e es q) ∙ c)) ]
 
-    pub at_close : part ≡ Closing → EvaluatedAs h.formula from inputs coils w₀ w (record { on = on w 0; at = at })
+    one_left : part ≡ Closing → d ≡ 1
+    one_left c = subst (λ (x : List Entry). Enough (bounds_for inputs coils w₀) x d) (closed c) i.enough
+
+    pub at_close : part ≡ Closing → (w' : List ℕ) (b : Bool) (r : ℕ) → Taken w w' d b r → EvaluatedAs h.formula from inputs coils w₀ w' (record { on = b; at = at })
     unfolding acts values
-    at_close c =
+    at_close c w' b r t =
         let q = closed c in
-        let one : d ≡ 1 = subst (λ (x : List Entry). Enough (bounds_for inputs coils w₀) x d) q i.enough in
+        let n : d ≡ r + 1 = t.next in
+        let one : d ≡ 1 = one_left c in
+        let z : r ≡ 0 = omega arith in
         let v : values w d ≡ value (on inputs) (on coils) h.formula ∷ [] = subst (λ (x : List Entry). acts (on inputs) (on coils) x (values w d) ≡ value (on inputs) (on coils) h.formula ∷ []) q i.runs in
         let v' : values w 1 ≡ value (on inputs) (on coils) h.formula ∷ [] = rw one at v in
         let k : length (each write_entry i.es) ≡ 0 = rw q in
-        record { is = cc; ends = let j = i.placed in omega arith; long = i.long }
+        let y : b ≡ on w 0 = rw z at t.is in
+        record { is = cc; ends = let j = i.placed in omega arith; long = ap length t.same ∙ i.long }
 
-    pub some_place : part ≡ Closing → 0 < length w
-    some_place c =
-        let one : d ≡ 1 = subst (λ (x : List Entry). Enough (bounds_for inputs coils w₀) x d) (closed c) i.enough in
-        let l = i.low in
-        let m = i.long in
-        omega arith
+    pub one_value : part ≡ Closing → (1 ≤ d) × (d ≤ length w)
+    one_value c = let one = one_left c in let l = i.low in let m = i.long in (omega arith, omega arith)
 
     module _ (c : part ≡ Closing → ⊥) where
       -- there is a next record
@@ -158,51 +161,37 @@ module _ (s : List ℕ) (from : ℕ) (inputs coils w₀ : List ℕ) where
             long = a.long ∙ i.long;
           }
 
--- only a closing record has no bytes of a formula
-no_bytes : (part : Part) → length_of part ≡ 0 → part ≡ Closing
-no_bytes (Input n) h = absurd (omega arith)
-no_bytes (Coil n) h = absurd (omega arith)
-no_bytes (Constant b) h = absurd (omega arith)
-no_bytes Not h = absurd (omega arith)
-no_bytes And h = absurd (omega arith)
-no_bytes Or h = absurd (omega arith)
-no_bytes Closing h = refl
+-- the turns as the code meets them
+module _ (s : List ℕ) (from : ℕ) (inputs coils w₀ w : List ℕ) (at d : ℕ) (i : Turning s from inputs coils w₀ w at d) (part : Part) (p : part ≡ part_of (drop at s)) where
+  -- m and n name the reference that was lent and the one that is given back
+  pub evaluated : part ≡ Closing → (w' w'' : List ℕ) (m n : ℕ) → (length w'' ≡ length w₀) × (m ≡ n → w'' ≡ w') → m ≡ n
+      → (b : Bool) (r : ℕ) → Taken w w' d b r → Evaluates s from inputs coils w₀ w'' (record { on = b; at = at })
+  evaluated z w' w'' m n g e b r t h = rw (g.1 e) (at_close s from inputs coils w₀ w at d h (i h) part p z w' b r t)
 
--- the turns as the code meets them, where n is the length it found
-module _ (s : List ℕ) (from : ℕ) (inputs coils w₀ w : List ℕ) (at d : ℕ) (i : Turning s from inputs coils w₀ w at d) (part : Part) (p : part ≡ part_of (drop at s))
-    (n : ℕ) (q : n ≡ length_of part) where
-  shut : n ≡ 0 → part ≡ Closing
-  shut z = no_bytes part (sym q ∙ z)
-
-  open_still : (n ≡ 0 → ⊥) → part ≡ Closing → ⊥
-  open_still z c = z (q ∙ ap length_of c)
-
-  pub evaluated : n ≡ 0 → Evaluates s from inputs coils w₀ w (record { on = on w 0; at = at })
-  evaluated z h = at_close s from inputs coils w₀ w at d h (i h) part p (shut z)
-
-  pub turned_again : (n ≡ 0 → ⊥) → (w' : List ℕ) (r : ℕ) → Applied part inputs coils w w' d r → Turning s from inputs coils w₀ w' (at + n) r
-  turned_again z w' r a h = turned s from inputs coils w₀ w at d h (i h) part p (open_still z) w' r (at + n) a (ap (λ (y : ℕ). at + y) q)
+  pub turned_again : (part ≡ Closing → ⊥) → (w' : List ℕ) (r n : ℕ) → Applied part inputs coils w w' d r → n ≡ length_of part → Turning s from inputs coils w₀ w' (at + n) r
+  turned_again z w' r n a q h = turned s from inputs coils w₀ w at d h (i h) part p z w' r (at + n) a (ap (λ (y : ℕ). at + y) q)
 
   module _ (h : FormulaAt s from (bounds_for inputs coils w₀)) where
-    pub place_to_read : n ≡ 0 → 0 < length w
-    place_to_read z = some_place s from inputs coils w₀ w at d h (i h) part p (shut z)
+    pub value_to_take : part ≡ Closing → (1 ≤ d) × (d ≤ length w)
+    value_to_take z = one_value s from inputs coils w₀ w at d h (i h) part p z
 
-    pub to_apply : (n ≡ 0 → ⊥) → Applicable part (length inputs) (length coils) (length w) d
-    to_apply z = applicable s from inputs coils w₀ w at d h (i h) part p (open_still z)
+    pub to_apply : (part ≡ Closing → ⊥) → Applicable part (length inputs) (length coils) (length w) d
+    to_apply z = applicable s from inputs coils w₀ w at d h (i h) part p z
 
-    pub inside : (n ≡ 0 → ⊥) → at + n ≤ length s
-    inside z =
-        let b = bytes_left s from inputs coils w₀ w at d h (i h) part p (open_still z) in
-        let o = some_bytes s from inputs coils w₀ w at d h (i h) part p (open_still z) in
-        omega arith
+    module _ (z : part ≡ Closing → ⊥) (n : ℕ) (q : n ≡ length_of part) where
+      pub inside : at + n ≤ length s
+      inside =
+          let b = bytes_left s from inputs coils w₀ w at d h (i h) part p z in
+          let o = some_bytes s from inputs coils w₀ w at d h (i h) part p z in
+          omega arith
 
-    pub sum_fits : (n ≡ 0 → ⊥) → length s < 18446744073709551616 → at + n < 18446744073709551616
-    sum_fits z l = let b = inside z in omega arith
+      pub sum_fits : length s < 18446744073709551616 → at + n < 18446744073709551616
+      sum_fits l = let b = inside in omega arith
 
-    pub nearer : (n ≡ 0 → ⊥) → length s - (at + n) < length s - at
-    nearer z = let b = inside z in let o = some_bytes s from inputs coils w₀ w at d h (i h) part p (open_still z) in omega arith
+      pub nearer : length s - (at + n) < length s - at
+      nearer = let b = inside in let o = some_bytes s from inputs coils w₀ w at d h (i h) part p z in omega arith
 
     pub still_long : length w ≡ length w₀
     still_long = (i h).long
 
-pub ruleset evaluate_cases = (turning, evaluated, turned_again, place_to_read, to_apply, sum_fits, nearer, still_long)
+pub ruleset evaluate_cases = (turning, evaluated, turned_again, value_to_take, to_apply, sum_fits, nearer, still_long)

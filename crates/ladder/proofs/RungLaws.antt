@@ -4,6 +4,7 @@ use Prim.Native.Nat.{ℕ, suc, ◌+◌, ◌-◌, ◌≤◌, ◌<◌}
 use mathlib.Core.Path.{◌≡◌, refl, sym, ap, ◌∙◌, subst}
 use mathlib.Core.List.{List, [], ◌∷◌, ◌++◌, append_assoc}
 use native.Mathlib.Omega.{arith}
+use mir.Val.{bool_byte}
 use lib.ListN.{length, drop, set, length-append, length-drop, length-set}
 use lib.Seq.{drop-drop, drop-append_seam}
 use Rattle.base.specs.Lists.{All, each}
@@ -18,6 +19,7 @@ use Rattle.ladder.specs.declared.Evaluated.{Evaluated}
 use Rattle.ladder.specs.Values.{on, bit_of}
 use Rattle.ladder.specs.Evaluate.{bounds_for, FormulaAt, EvaluatedAs, Evaluates}
 use Rattle.ladder.specs.Scan.{closed_rung, run_places, Runnable, RungAt, RunsRung, RungsAt, RanRungs, RunsRungs}
+use Rattle.ladder.proofs.StackLaws.{byte_is}
 
 -- bytes past the front
 pub drop_front : (s : List ℕ) (p : ℕ) (x y : List ℕ) → drop p s ≡ x ++ y → drop (p + length x) s ≡ y
@@ -35,7 +37,7 @@ module _ (s : List ℕ) (p : ℕ) (inputs k w : List ℕ) where
     fits = h.runnable.fits;
   }
 
-  module _ (w' : List ℕ) (e : Evaluated) (v : Evaluates s p inputs k w w' e) (c : ℕ) (n : c ≡ number_at s e.at 1) where
+  module _ (w' : List ℕ) (e : Evaluated) (v : Evaluates s p inputs k w w' e) (m c : ℕ) (n : m ≡ number_at s e.at 1) (o : c ≡ m) where
     module _ (h : RungAt s p (bounds_for inputs k w)) where
       is : EvaluatedAs h.rung.formula p inputs k w w' e
       unfolding formula_first
@@ -46,7 +48,7 @@ module _ (s : List ℕ) (p : ℕ) (inputs k w : List ℕ) where
       after = ap (λ (x : ℕ). drop x s) is.ends ∙ drop_front s p (write_formula h.rung.formula) ((Kind.RUNG ∷ two_bytes h.rung.coil) ++ h.rest) (formula_first h).bytes
 
       pub coil_is : c ≡ h.rung.coil
-      coil_is = n ∙ ap (λ (x : List ℕ). number x 1) after ∙ two_bytes_lem h.rung.coil
+      coil_is = o ∙ n ∙ ap (λ (x : List ℕ). number x 1) after ∙ two_bytes_lem h.rung.coil
 
       pub coil_there : c < length k
       coil_there = rw coil_is h.runnable.named
@@ -59,13 +61,13 @@ module _ (s : List ℕ) (p : ℕ) (inputs k w : List ℕ) where
       pub end_fits : length s < 18446744073709551616 → e.at + 3 < 18446744073709551616
       end_fits l = let b = end_inside in omega arith
 
-    pub ran_rung : (b : ℕ) → b ≡ bit_of e.on → RunsRung s p inputs k (set k c b) w w' (e.at + 3)
+    pub ran_rung : (b : ℕ) → b ≡ bool_byte e.on → RunsRung s p inputs k (set k c b) w w' (e.at + 3)
     unfolding closed_rung write_rung
     ran_rung b q h =
         let i = is h in
         let m : length (write_formula h.rung.formula ++ (Kind.RUNG ∷ two_bytes h.rung.coil)) ≡ length (write_formula h.rung.formula) + 3 = length-append (write_formula h.rung.formula) (Kind.RUNG ∷ two_bytes h.rung.coil) in
         let z = i.ends in
-        record { ends = omega arith; coils = rw (coil_is h, q, i.is); long = i.long }
+        record { ends = omega arith; coils = rw (coil_is h, q, byte_is e.on, i.is); long = i.long }
 
 pub ruleset run_rung_cases = (formula_first, coil_there, end_fits, ran_rung)
 

@@ -1,7 +1,7 @@
 -- The scan of any sheet bytes: the sheet's refusal, the scan of a good one, and lent places that are too short.
 -- Assumes nothing.
 use Prim.Native.Nat.{ℕ, ◌≤◌, ◌<◌}
-use mathlib.Core.Path.{◌≡◌, sym, ap, ◌∙◌, subst}
+use mathlib.Core.Path.{◌≡◌, sym, ap, ◌∙◌}
 use mathlib.Core.Bool.{Bool, true, false, or-true}
 use mathlib.Core.List.{List}
 use native.Mathlib.Omega.{arith}
@@ -12,17 +12,15 @@ use lib.Dec.{ltb}
 use borrow.Author.Tests.{lt-ltb, le-ltb}
 use Rattle.rules.specs.declared.Limits.{Limits}
 use Rattle.rules.specs.Head.{base_limits}
-use Rattle.rules.specs.Walk.{◌at◌}
+use Rattle.std.specs.Prelude.{Ok, Err}
+use Rattle.rules.specs.declared.refusals.Fault.TheVariants.{ShortWorkspace}
+use Rattle.rules.specs.declared.refusals.Refusal.{Refusal as Told}
 use Rattle.rules.specs.Sheet.{Sheet}
-use Rattle.rules.specs.ReadSheet.{SheetRead.bad, read_sheet}
+use Rattle.rules.specs.ReadSheet.{read_sheet}
 use Rattle.rules.specs.WriteSheet.{write_sheet, WithinSheet, Bytes}
 use Rattle.reading.proofs.SheetKept.{sheet_written}
 use Rattle.sheets.specs.declared.Outline.{Outline}
-use Rattle.sheets.specs.declared.SheetAnswer.{SheetAnswer}
-use Rattle.sheets.specs.declared.SheetAnswer.TheVariants.{Good, Bad}
 use Rattle.sheets.specs.Answer.{Outlined, Says, ReadAs}
-use Rattle.ladder.specs.declared.Scanned.{Scanned}
-use Rattle.ladder.specs.declared.Scanned.TheVariants.{Done, Refused}
 use Rattle.ladder.specs.Evaluate.{bounds_for}
 use Rattle.ladder.specs.Scan.{LadderAt, ScansOnce}
 use Rattle.ladder.specs.Scanned.{ScanAnswer.done, short, answer_for, coils_for, scan_of, coils_after, scanned_of, ScansSheet, Roomy}
@@ -46,20 +44,18 @@ pub bytes_known : (s : List ℕ) → ((k : ℕ) → Fits w8 (get_or s k 0)) → 
 bytes_known s h k = omega (arith, h k)
 
 -- any bytes on enough places
-module _ (l : Limits) (s inputs coils marks stack : List ℕ) (a : Roomy l inputs coils marks stack) (marks' : List ℕ) (x : SheetAnswer) (i : ReadAs l s marks marks' x) where
-  pub sheet_bad : (n p : ℕ) → x ≡ Bad n p → ScansSheet l s inputs coils coils (Refused n p)
+module _ (l : Limits) (s inputs coils marks stack : List ℕ) (a : Roomy l inputs coils marks stack) (marks' : List ℕ) where
+  pub sheet_bad : (x : Told) → ReadAs l s marks marks' (Err x) → ScansSheet l s inputs coils coils (Err x)
   unfolding Says scanned_of answer_for coils_for
-  sheet_bad n p e =
-      let y : read_sheet l s ≡ bad (n at p) = subst (λ (z : SheetAnswer). Says l s z) e i.answered in
-      record {
-        answered = sym (answers_for l s inputs coils a.inputs_room a.coils_room ∙ ap (answer_for inputs coils) y);
-        left = sym (leaves_for l s inputs coils a.inputs_room a.coils_room ∙ ap (coils_for inputs coils) y);
-      }
+  sheet_bad x i = record {
+    answered = sym (answers_for l s inputs coils a.inputs_room a.coils_room ∙ ap (answer_for inputs coils) i.answered);
+    left = sym (leaves_for l s inputs coils a.inputs_room a.coils_room ∙ ap (coils_for inputs coils) i.answered);
+  }
 
-  module _ (h : Outline) (e : x ≡ Good h) (b : Bytes s) where
+  module _ (h : Outline) (i : ReadAs l s marks marks' (Ok h)) (b : Bytes s) where
     outlined : Outlined l s h
     unfolding Says
-    outlined = subst (λ (z : SheetAnswer). Says l s z) e i.answered
+    outlined = i.answered
 
     abbrev t : Sheet
     t = outlined.sheet
@@ -73,7 +69,7 @@ module _ (l : Limits) (s inputs coils marks stack : List ℕ) (a : Roomy l input
         h.rungs_at h.rungs outlined.rungs_begin outlined.rungs_are
 
     pub sheet_good : (coils' stack' : List ℕ) (r : Bool) → ScansOnce s h.rungs_at h.rungs inputs coils coils' stack stack' r
-        → ScansSheet l s inputs coils coils' (Done r)
+        → ScansSheet l s inputs coils coils' (Ok r)
     unfolding ladder_here ladder_at scanned_of answer_for coils_for
     sheet_good coils' stack' r f =
         let z = f ladder_here in
@@ -82,30 +78,14 @@ module _ (l : Limits) (s inputs coils marks stack : List ℕ) (a : Roomy l input
           left = z.coils ∙ sym (leaves_for l s inputs coils a.inputs_room a.coils_room ∙ ap (coils_for inputs coils) outlined.reads);
         }
 
-pub ruleset scan_within_cases = (bytes_known, sheet_bad, ladder_here, sheet_good)
-
--- the lent places' lengths
-module _ (l : Limits) (b : l ≡ base_limits) (s inputs coils : List ℕ) where
-  refused_short : short l inputs coils ≡ true → ScansSheet l s inputs coils coils (Refused 1 0)
+-- too few places
+module _ (s inputs coils : List ℕ) where
+  refused_short : short base_limits inputs coils ≡ true → ScansSheet base_limits s inputs coils coils (Err (record { fault = ShortWorkspace; place = 0 }))
   unfolding scanned_of scan_of coils_after
   refused_short e = record { answered = rw e; left = rw e }
 
-  pub few_inputs : length inputs < l.inputs → ScansSheet base_limits s inputs coils coils (Refused 1 0)
-  few_inputs h = rw b at (refused_short (rw (lt-ltb _ _ h)))
+  pub few_inputs : length inputs < base_limits.inputs → ScansSheet base_limits s inputs coils coils (Err (record { fault = ShortWorkspace; place = 0 }))
+  few_inputs h = refused_short (rw (lt-ltb _ _ h))
 
-  pub few_coils : length coils < l.coils → ScansSheet base_limits s inputs coils coils (Refused 1 0)
-  few_coils h = rw b at (refused_short (rw (lt-ltb _ _ h) (or-true (ltb (length inputs) l.inputs))))
-
-  pub roomy : l.inputs ≤ length inputs → l.coils ≤ length coils → (marks stack : List ℕ) → 256 ≡ length marks → 32 ≡ length stack
-      → Roomy l inputs coils marks stack
-  roomy i c marks stack m d = record {
-    inputs_room = i;
-    coils_room = c;
-    marks_room = let z : l.coils ≡ 256 = ap (λ (x : Limits). x.coils) b in omega arith;
-    stack_room = let z : l.depth ≡ 32 = ap (λ (x : Limits). x.depth) b in omega arith;
-  }
-
-  pub at_base : (coils' : List ℕ) (r : Scanned) → ScansSheet l s inputs coils coils' r → ScansSheet base_limits s inputs coils coils' r
-  at_base coils' r z = rw b at z
-
-pub ruleset scan_cases = (few_inputs, few_coils, roomy, at_base)
+  pub few_coils : length coils < base_limits.coils → ScansSheet base_limits s inputs coils coils (Err (record { fault = ShortWorkspace; place = 0 }))
+  few_coils h = refused_short (rw (lt-ltb _ _ h) (or-true (ltb (length inputs) base_limits.inputs)))

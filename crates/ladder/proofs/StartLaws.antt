@@ -5,6 +5,7 @@ use mathlib.Core.Path.{◌≡◌, refl, sym, ap, ◌∙◌, subst, fun_ext}
 use mathlib.Core.Bool.{Bool, true, false}
 use mathlib.Core.List.{List, [], ◌∷◌, ◌++◌, append_assoc, map}
 use native.Mathlib.Omega.{arith}
+use mir.Val.{bool_byte}
 use lib.ListN.{length, get_or, drop, set, length-append, length-drop, length-set}
 use lib.Dec.{eqb}
 use borrow.Author.Tests.{eqb-true, ne_eqb}
@@ -17,6 +18,7 @@ use Rattle.records.specs.Found.{number_at, byte_at}
 use Rattle.formulas.proofs.ReadBack.{two_bytes_lem}
 use Rattle.ladder.specs.Values.{on, bit_of}
 use Rattle.ladder.specs.Starts.{start_places, StartsAt, Initialises}
+use Rattle.ladder.proofs.StackLaws.{byte_is}
 use Rattle.ladder.proofs.RungLaws.{drop_front}
 use Rattle.ladder.proofs.ScanLaws.{on_set}
 
@@ -83,8 +85,8 @@ module _ (s : List ℕ) (from n : ℕ) (w₀ : List ℕ) where
         unfolding write_start
         value_is v q = ap (λ (z : ℕ). eqb z 1) (q ∙ ap (λ (z : List ℕ). get_or z 3 0) (ahead here)) ∙ bit_back here.x.on
 
-        pub start_there : (c : ℕ) → c ≡ number_at s at 1 → c < length w
-        start_there c q = let e = coil_is c q in let k = (names here).0 in let m = (t h).long in omega arith
+        pub start_there : (m c : ℕ) → m ≡ number_at s at 1 → c ≡ m → c < length w
+        start_there m c q o = let e = coil_is c (o ∙ q) in let k = (names here).0 in let m = (t h).long in omega arith
 
         four_bytes : (x : Start) → length (write_start x) ≡ 4
         unfolding write_start
@@ -114,8 +116,8 @@ module _ (s : List ℕ) (from n : ℕ) (w₀ : List ℕ) where
               long = length-set w c b ∙ (t h).long;
             }
 
-      pub next_start : (c v b : ℕ) → c ≡ number_at s at 1 → v ≡ byte_at s at 3 → b ≡ bit_of (eqb v 1) → Begun s from n w₀ (set w c b) (at + 4) (i + 1)
-      next_start c v b qc qv qb h = round h c v b qc qv qb
+      pub next_start : (m c v b : ℕ) → m ≡ number_at s at 1 → c ≡ m → v ≡ byte_at s at 3 → b ≡ bool_byte (eqb v 1) → Begun s from n w₀ (set w c b) (at + 4) (i + 1)
+      next_start m c v b qm qc qv qb h = round h c v b (qc ∙ qm) qv (qb ∙ byte_is (eqb v 1))
 
     pub still_started : StartsAt s from n (length w₀) → length w ≡ length w₀
     still_started h = (t h).long

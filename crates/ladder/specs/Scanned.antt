@@ -1,13 +1,13 @@
 -- What the public scan promises: its answer, and every place of the lent coils, for any sheet bytes, inputs and coils.
-use Rattle.std.specs.Prelude.{ℕ, ◌≤◌, ◌≡◌, Bool, ◌||◌, List, length, ltb}
+use Rattle.std.specs.Prelude.{ℕ, ◌≤◌, ◌≡◌, Result, Ok, Err, Bool, ◌||◌, List, length, ltb}
 use Rattle.base.specs.Pick.{pick}
 use Rattle.rules.specs.declared.Limits.{Limits}
+use Rattle.rules.specs.declared.refusals.Refusal.{Refusal as Told}
+use Rattle.rules.specs.Fault.{refusal_of}
 use Rattle.rules.specs.Walk.{Refusal, ◌at◌}
 use Rattle.rules.specs.Sheet.{Sheet, scan, holds_after}
 use Rattle.rules.specs.ReadSheet.{SheetRead, SheetRead.good, SheetRead.bad, read_sheet}
 use Rattle.rules.specs.WriteSheet.{Bytes}
-use Rattle.ladder.specs.declared.Scanned.{Scanned}
-use Rattle.ladder.specs.declared.Scanned.TheVariants.{Done, Refused}
 use Rattle.ladder.specs.Values.{on}
 use Rattle.ladder.specs.Scan.{run_places}
 
@@ -37,12 +37,12 @@ unfoldable pub coils_after : Limits → List ℕ → List ℕ → List ℕ → L
 coils_after l s inputs coils = pick (short l inputs coils) coils (coils_for inputs coils (read_sheet l s))
 
 -- the number and values for each case of the scan's answer
-unfoldable pub scanned_of : Scanned → ScanAnswer
-scanned_of (Done b) = done b
-scanned_of (Refused n p) = refused (n at p)
+unfoldable pub scanned_of : Result Bool Told → ScanAnswer
+scanned_of (Ok b) = done b
+scanned_of (Err x) = refused (refusal_of x)
 
 -- the answer is that of the rules, and so is every place of the coils after it
-pub record ScansSheet (l : Limits) (s inputs coils coils' : List ℕ) (r : Scanned) : Type 0 where
+pub record ScansSheet (l : Limits) (s inputs coils coils' : List ℕ) (r : Result Bool Told) : Type 0 where
   pub answered : scanned_of r ≡ scan_of l s inputs coils
   pub left : coils' ≡ coils_after l s inputs coils
 
@@ -57,7 +57,7 @@ pub record Meant (l : Limits) (s inputs coils coils' : List ℕ) (b : Bool) : Ty
 abbrev pub ScanMeans : Type 0
 ScanMeans =
     (l : Limits) (s inputs coils coils' : List ℕ) (b : Bool) → Bytes s
-    → ScansSheet l s inputs coils coils' (Done b) → Meant l s inputs coils coils' b
+    → ScansSheet l s inputs coils coils' (Ok b) → Meant l s inputs coils coils' b
 
 -- places that are enough for any sheet within the limits: the lent ones, and those for the marks and the stack
 pub record Roomy (l : Limits) (inputs coils marks stack : List ℕ) : Type 0 where

@@ -31,3 +31,9 @@ pub record Put (w w' : List ℕ) (d : ℕ) (b : Bool) (r : ℕ) : Type 0 where
   pub next : r ≡ d + 1
   pub long : length w' ≡ length w
   pub stacked : values w' r ≡ b ∷ values w d
+
+-- the value at the top was taken, and the stack is one lower
+pub record Taken (w w' : List ℕ) (d : ℕ) (b : Bool) (r : ℕ) : Type 0 where
+  pub next : d ≡ r + 1
+  pub same : w' ≡ w
+  pub is : b ≡ on w r

@@ -3,9 +3,9 @@
 
 mod within;
 
-ghost use Rattle.std.specs.Prelude.{◌≡◌, ◌&&◌, ◌||◌, not, ◌+◌, ◌<◌, length};
+ghost use Rattle.std.specs.Prelude.{◌≡◌, ◌≤◌, ◌<◌, length};
 ghost use Rattle.rules.specs.Head.{base_limits};
-ghost use Rattle.ladder.specs.Values.{bit_of, on, Put};
+ghost use Rattle.ladder.specs.Values.{Put, Taken};
 ghost use Rattle.ladder.specs.Starts.{StartsAt, Initialises};
 ghost use Rattle.ladder.specs.Scan.{RungAt, RunsRung, RungsAt, RunsRungs, LadderAt, ScansOnce};
 ghost use Rattle.ladder.specs.Scanned.{ScansSheet, ScanMeans};
@@ -13,82 +13,66 @@ ghost use Rattle.ladder.specs.Order.{Order};
 ghost use Rattle.ladder.specs.Evaluate.{Applicable, Applied, FormulaAt, Evaluates, bounds_for};
 
 use formulas::Part;
-use rules::Sheet;
+use rules::{Fault, Refusal, Sheet};
 
-// The place of a value.
-fn bit(v: bool) -> u16
-    ensures { result ≡ bit_of v }
-{
-    if v { 1 } else { 0 }
+// Values on lent places, the last one put at the top.
+#[derive(Drop)]
+struct Stack<'a> {
+    places: &'a mut [u16],
+    depth: usize,
 }
 
-// A value put on the stack.
-fn push(stack: &mut [u16], depth: usize, v: bool) -> usize
-    requires { depth < length stack.old }
-    ensures { Put stack.old stack.new depth v result }
-{
-    stack[depth] = bit(v);
-    depth + 1
-}
-
-// The value at x, inverted in its place.
-fn inverse(stack: &mut [u16], x: usize) -> usize
-    requires { x < length stack.old }
-    ensures { Put stack.old stack.new x (not (on stack.old x)) result }
-{
-    let v = stack[x] == 0;
-    push(stack, x, v)
-}
-
-// The values at x and above it, joined in the place of x.
-fn both(stack: &mut [u16], x: usize) -> usize
-    requires { x + 1 < length stack.old }
-    ensures { Put stack.old stack.new x (on stack.old x && on stack.old (x + 1)) result }
-{
-    if stack[x] == 0 {
-        return push(stack, x, false);
+impl Stack<'_> {
+    fn push(&mut self, v: bool)
+        requires { self.old.depth < length self.old.places.now }
+        ensures same { self.new.places.ghost_name ≡ self.old.places.ghost_name }
+        ensures put { Put self.old.places.now self.new.places.now self.old.depth v self.new.depth }
+    {
+        self.places[self.depth] = u16::from(v);
+        self.depth += 1;
     }
-    let v = stack[x + 1] != 0;
-    push(stack, x, v)
-}
 
-fn either(stack: &mut [u16], x: usize) -> usize
-    requires { x + 1 < length stack.old }
-    ensures { Put stack.old stack.new x (on stack.old x || on stack.old (x + 1)) result }
-{
-    if stack[x] != 0 {
-        return push(stack, x, true);
+    fn pop(&mut self) -> bool
+        requires { (1 ≤ self.old.depth) × (self.old.depth ≤ length self.old.places.now) }
+        ensures same { self.new.places.ghost_name ≡ self.old.places.ghost_name }
+        ensures taken { Taken self.old.places.now self.new.places.now self.old.depth result self.new.depth }
+    {
+        self.depth -= 1;
+        self.places[self.depth] != 0
     }
-    let v = stack[x + 1] != 0;
-    push(stack, x, v)
 }
 
 // One formula record: it takes its operands from the stack and puts its value there.
-fn apply(part: Part, inputs: &[u16], coils: &[u16], stack: &mut [u16], depth: usize) -> usize
-    requires { Applicable part (length inputs.now) (length coils.now) (length stack.old) depth }
-    ensures { Applied part inputs.now coils.now stack.old stack.new depth result }
+#[tactic(auto, using(crate::proofs::ApplyLaws::apply_cases))]
+fn apply(part: Part, inputs: &[u16], coils: &[u16], stack: &mut Stack<'_>)
+    requires { Applicable part (length inputs.now) (length coils.now) (length stack.old.places.now) stack.old.depth }
+    ensures same { stack.new.places.ghost_name ≡ stack.old.places.ghost_name }
+    ensures applied { Applied part inputs.now coils.now stack.old.places.now stack.new.places.now stack.old.depth stack.new.depth }
 {
     match part {
-        Part::Input(n) => {
-            let i = n as usize;
-            let v = inputs[i] != 0;
-            push(stack, depth, v)
+        Part::Input(n) => stack.push(inputs[usize::from(n)] != 0),
+        Part::Coil(n) => stack.push(coils[usize::from(n)] != 0),
+        Part::Constant(v) => stack.push(v),
+        Part::Not => {
+            let x = stack.pop();
+            stack.push(!x);
         }
-        Part::Coil(n) => {
-            let c = n as usize;
-            let v = coils[c] != 0;
-            push(stack, depth, v)
+        Part::And => {
+            let y = stack.pop();
+            let x = stack.pop();
+            stack.push(x && y);
         }
-        Part::Constant(v) => push(stack, depth, v),
-        Part::Not => inverse(stack, depth - 1),
-        Part::And => both(stack, depth - 2),
-        Part::Or => either(stack, depth - 2),
-        Part::Closing => depth,
+        Part::Or => {
+            let y = stack.pop();
+            let x = stack.pop();
+            stack.push(x || y);
+        }
+        Part::Closing => {}
     }
 }
 
 // A formula's value, and the place of the record that closes it.
-#[derive(Clone, Copy)]
+#[derive(Clone, Copy, Debug, PartialEq, Eq)]
 pub struct Evaluated {
     pub on: bool,
     pub at: usize,
@@ -105,19 +89,21 @@ pub fn evaluate(
     requires { FormulaAt s.now from (bounds_for inputs.now coils.now stack.old) }
     ensures { Evaluates s.now from inputs.now coils.now stack.old stack.new result }
 {
+    let mut stack = Stack {
+        places: stack,
+        depth: 0,
+    };
     let mut at = from;
-    let mut depth: usize = 0;
     loop {
         let part = formulas::part_at(s, at);
-        let n = formulas::part_length(part);
-        if n == 0 {
+        if let Part::Closing = part {
             return Evaluated {
-                on: stack[0] != 0,
-                at: at,
+                on: stack.pop(),
+                at,
             };
         }
-        depth = apply(part, inputs, coils, stack, depth);
-        at += n;
+        apply(part, inputs, coils, &mut stack);
+        at += formulas::part_length(part);
     }
 }
 
@@ -126,10 +112,9 @@ fn run_rung(s: &[u8], from: usize, inputs: &[u16], coils: &mut [u16], stack: &mu
     requires { RungAt s.now from (bounds_for inputs.now coils.old stack.old) }
     ensures { RunsRung s.now from inputs.now coils.old coils.new stack.old stack.new result }
 {
-    let e = evaluate(s, from, inputs, coils, stack);
-    let at = e.at;
-    let c = records::number_at(s, at, 1) as usize;
-    coils[c] = bit(e.on);
+    let Evaluated { on, at } = evaluate(s, from, inputs, coils, stack);
+    let coil = usize::from(records::number_at(s, at, 1));
+    coils[coil] = u16::from(on);
     at + 3
 }
 
@@ -146,10 +131,8 @@ pub fn run_rungs(
     ensures { RunsRungs s.now from rungs inputs.now coils.old coils.new stack.old stack.new result }
 {
     let mut at = from;
-    let mut i: usize = 0;
-    while i < rungs {
+    for _ in 0..rungs {
         at = run_rung(s, at, inputs, coils, stack);
-        i += 1;
     }
     at
 }
@@ -167,8 +150,7 @@ pub fn scan_once(
     ensures { ScansOnce s.now from rungs inputs.now coils.old coils.new stack.old stack.new result }
 {
     let at = run_rungs(s, from, rungs, inputs, coils, stack);
-    let e = evaluate(s, at, inputs, coils, stack);
-    e.on
+    evaluate(s, at, inputs, coils, stack).on
 }
 
 // The start values of a sheet's coils, from its STARTs, which begin at a place; the other coils are left as they are.
@@ -177,37 +159,24 @@ pub fn initialise(s: &[u8], from: usize, starts: usize, coils: &mut [u16])
     ensures { Initialises s.now from starts coils.old coils.new }
 {
     let mut at = from;
-    let mut i: usize = 0;
-    while i < starts {
-        let c = records::number_at(s, at, 1) as usize;
-        coils[c] = bit(records::byte_at(s, at, 3) == 1);
+    for _ in 0..starts {
+        let coil = usize::from(records::number_at(s, at, 1));
+        coils[coil] = u16::from(records::byte_at(s, at, 3) == 1);
         at += 4;
-        i += 1;
     }
 }
 
-// The public scan's answer: whether the condition holds after it, or why there was none.
-#[derive(Clone, Copy)]
-pub enum Scanned {
-    Done { holds: bool },
-    Refused { no: u8, place: usize },
-}
-
-// One scan of any sheet bytes, over lent places; a place that is not zero is on. A refused scan changes no place.
-pub fn scan(sheet: &[u8], inputs: &[u16], coils: &mut [u16]) -> Scanned
+// One scan of any sheet bytes, over lent places; a place that is not zero is on. The answer is whether the condition holds
+// after it; a refused scan changes no place.
+pub fn scan(sheet: &[u8], inputs: &[u16], coils: &mut [u16]) -> Result<bool, Refusal>
     ensures { ScansSheet base_limits sheet.now inputs.now coils.old coils.new result }
 {
     let l = Sheet::limits();
-    let i = l.inputs;
-    if inputs.len() < i {
-        return Scanned::Refused { no: 1, place: 0 };
+    if inputs.len() < l.inputs || coils.len() < l.coils {
+        return Err(Fault::ShortWorkspace.at(0));
     }
-    let c = l.coils;
-    if coils.len() < c {
-        return Scanned::Refused { no: 1, place: 0 };
-    }
-    let mut marks = [0u16; 256];
-    let mut stack = [0u16; 32];
+    let mut marks = [0u16; Sheet::COILS];
+    let mut stack = [0u16; Sheet::DEPTH];
     within::scan_within(l, sheet, inputs, coils, &mut marks, &mut stack)
 }
 

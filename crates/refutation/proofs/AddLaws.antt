@@ -9,7 +9,8 @@ use lib.ListN.{length, get_or, drop, set, length-append}
 use borrow.Author.Tests.{eq-eqb, ne_eqb}
 use Rattle.rules.specs.Record.{one_of}
 use Rattle.refutation.specs.Memory.{part, Outside}
-use Rattle.refutation.specs.Making.{with, unless, joined, Built, Space, Grown, Apart}
+use Rattle.refutation.specs.declared.codes.Spot.{Spot}
+use Rattle.refutation.specs.Making.{codes, with, unless, joined, Built, Space, Grown, Apart}
 use Rattle.refutation.proofs.PartLaws.{left, none_left, part_front, outside_same, outside_then, outside_set, part_more}
 
 length_with : (x : ℕ) (xs : List ℕ) → length xs ≤ length (with x xs)
@@ -93,16 +94,16 @@ module _ (w : List ℕ) (a width k x p : ℕ) where
 pub ruleset add_but_cases = (but_filler, but_left_out, but_put_in)
 
 -- the codes from i on, joined to what stands now, are as all of them joined to what stood at first
-pub record Joining (w₀ : List ℕ) (a width k₀ s count p : ℕ) (w : List ℕ) (k i : ℕ) : Type 0 where
+pub record Joining (w₀ : List ℕ) (a width k₀ : ℕ) (x : Spot) (p : ℕ) (w : List ℕ) (k i : ℕ) : Type 0 where
   pub space : Space w a width k
-  pub apart : s + count ≤ a
-  pub upto : i ≤ count
+  pub apart : x.start + x.count ≤ a
+  pub upto : i ≤ x.count
   pub long : length w ≡ length w₀
   pub outside : Outside a (a + width) w₀ w
-  pub built : (xs : List ℕ) → Built w₀ a width k₀ xs → (ys : List ℕ) × Built w a width k ys × (joined p (drop i (part w s count)) ys ≡ joined p (part w₀ s count) xs)
+  pub built : (xs : List ℕ) → Built w₀ a width k₀ xs → (ys : List ℕ) × Built w a width k ys × (joined p (drop i (codes w x)) ys ≡ joined p (codes w₀ x) xs)
 
-pub join_begin : (w : List ℕ) (a width k s count p : ℕ) → Apart w a width k s count → Joining w a width k s count p w k 0
-join_begin w a width k s count p h = record {
+pub join_begin : (w : List ℕ) (a width k : ℕ) (x : Spot) (p : ℕ) → Apart w a width k x → Joining w a width k x p w k 0
+join_begin w a width k x p h = record {
   space = h.space;
   apart = h.apart;
   upto = omega arith;
@@ -111,12 +112,12 @@ join_begin w a width k s count p h = record {
   built = λ xs b. (xs, b, refl);
 }
 
-module _ (w₀ : List ℕ) (a width k₀ s count p : ℕ) (w : List ℕ) (k i : ℕ) (j : Joining w₀ a width k₀ s count p w k i) where
-  within : s + count ≤ length w
+module _ (w₀ : List ℕ) (a width k₀ : ℕ) (x : Spot) (p : ℕ) (w : List ℕ) (k i : ℕ) (j : Joining w₀ a width k₀ x p w k i) where
+  within : x.start + x.count ≤ length w
   within = omega (arith, j.apart, j.space.fits)
 
-  pub join_on : i < count → (w' : List ℕ) (r : ℕ) → Grown w a width k (unless p (get_or w (s + i) 0)) w' r → length w' ≡ length w
-      → Joining w₀ a width k₀ s count p w' r (i + 1)
+  pub join_on : i < x.count → (w' : List ℕ) (r : ℕ) → Grown w a width k (unless p (get_or w (x.start + i) 0)) w' r → length w' ≡ length w
+      → Joining w₀ a width k₀ x p w' r (i + 1)
   unfolding joined
   join_on h w' r g e = record {
     space = record { fits = omega (arith, j.space.fits); upto = g.upto };
@@ -127,22 +128,22 @@ module _ (w₀ : List ℕ) (a width k₀ s count p : ℕ) (w : List ℕ) (k i : 
     built = λ xs b. again xs (j.built xs b);
   }
     where
-      again : (xs : List ℕ) → (ys : List ℕ) × Built w a width k ys × (joined p (drop i (part w s count)) ys ≡ joined p (part w₀ s count) xs)
-          → (ys : List ℕ) × Built w' a width r ys × (joined p (drop (i + 1) (part w' s count)) ys ≡ joined p (part w₀ s count) xs)
+      again : (xs : List ℕ) → (ys : List ℕ) × Built w a width k ys × (joined p (drop i (codes w x)) ys ≡ joined p (codes w₀ x) xs)
+          → (ys : List ℕ) × Built w' a width r ys × (joined p (drop (i + 1) (codes w' x)) ys ≡ joined p (codes w₀ x) xs)
       again xs t =
-          let q : joined p (get_or w (s + i) 0 ∷ drop (i + 1) (part w s count)) t.0 ≡ joined p (part w₀ s count) xs
-          = rw (left w s count within i h) at t.2 in
-          let f : part w' s count ≡ part w s count = part_front w w' a s count g.outside.front j.apart in
-          (unless p (get_or w (s + i) 0) t.0, g.built t.0 t.1, rw f q)
+          let q : joined p (get_or w (x.start + i) 0 ∷ drop (i + 1) (codes w x)) t.0 ≡ joined p (codes w₀ x) xs
+          = rw (left w x.start x.count within i h) at t.2 in
+          let f : codes w' x ≡ codes w x = part_front w w' a x.start x.count g.outside.front j.apart in
+          (unless p (get_or w (x.start + i) 0) t.0, g.built t.0 t.1, rw f q)
 
-  pub join_end : count ≤ i → Grown w₀ a width k₀ (joined p (part w₀ s count)) w k
+  pub join_end : x.count ≤ i → Grown w₀ a width k₀ (joined p (codes w₀ x)) w k
   unfolding joined
   join_end h = record { built = λ xs b. last xs (j.built xs b); upto = j.space.upto; outside = j.outside }
     where
-      last : (xs : List ℕ) → (ys : List ℕ) × Built w a width k ys × (joined p (drop i (part w s count)) ys ≡ joined p (part w₀ s count) xs)
-          → Built w a width k (joined p (part w₀ s count) xs)
+      last : (xs : List ℕ) → (ys : List ℕ) × Built w a width k ys × (joined p (drop i (codes w x)) ys ≡ joined p (codes w₀ x) xs)
+          → Built w a width k (joined p (codes w₀ x) xs)
       last xs t =
-          let q : t.0 ≡ joined p (part w₀ s count) xs = rw (none_left w s count within i h, joined) at t.2 in
+          let q : t.0 ≡ joined p (codes w₀ x) xs = rw (none_left w x.start x.count within i h, joined) at t.2 in
           rw q at t.1
 
 pub ruleset join_cases = (join_begin, join_on, join_end)

@@ -1,37 +1,22 @@
 -- The three refutations of a certificate one after the other: from one answer to the next, and to the verdict.
 -- Assumes nothing.
-use Prim.Native.Nat.{ℕ, suc, ◌+◌, ◌<◌}
-use mathlib.Core.Path.{◌≡◌, refl, sym, ap, ◌∙◌}
+use Prim.Native.Nat.{ℕ, ◌+◌, ◌<◌}
+use mathlib.Core.Path.{◌≡◌, sym, ap, ◌∙◌}
 use mathlib.Core.Bool.{false}
 use mathlib.Core.List.{List}
-use native.Mathlib.Omega.{arith}
 use lib.ListN.{length, drop}
 use Rattle.rules.specs.declared.Limits.{Limits}
 use Rattle.rules.specs.declared.Answer.{Answer}
 use Rattle.rules.specs.Walk.{walk}
-use Rattle.rules.specs.Formula.{Formula}
-use Rattle.rules.specs.Sheet.{Sheet}
-use Rattle.rules.specs.Certificate.{Which.start, steps_reader, read_steps}
+use Rattle.rules.specs.Certificate.{steps_reader}
 use Rattle.rules.specs.Clauses.{clause_set}
-use Rattle.rules.specs.Verdict.{Verdict, Verdict.refused, following, refuting, judge_steps, answer_of}
-use Rattle.refutation.specs.Memory.{Held}
-use Rattle.refutation.specs.Judging.{Case, verdict, Stands, Ends, Ends.refuses, Ends.closes, Ended}
+use Rattle.rules.specs.Verdict.{Verdict, Verdict.refused, following, judge_steps, answer_of}
+use Rattle.refutation.specs.Judging.{Case, verdict, Ends, Ends.refuses, Ends.closes, Ended}
 use Rattle.std.specs.Prelude.{Result, Ok, Err}
 use Rattle.rules.specs.declared.refusals.Refusal.{Refusal}
 use Rattle.rules.specs.Fault.{refusal_of}
 
--- the first refutation, from place p on, and the one after another
-abbrev pub first_case : Sheet → Formula → List ℕ → ℕ → Case
-first_case t inv c p = record {
-  sheet = t;
-  invariant = inv;
-  bytes = c;
-  which = start;
-  clauses = clause_set t inv start;
-  qeds = 0;
-  fuel = suc (length (drop p c));
-}
-
+-- the refutation after another
 abbrev pub next_case : Case → ℕ → Case
 next_case x f = record {
   sheet = x.sheet;
@@ -42,15 +27,6 @@ next_case x f = record {
   qeds = x.qeds + 1;
   fuel = f;
 }
-
-pub first_begins : (l : Limits) (t : Sheet) (inv : Formula) (c : List ℕ) (p : ℕ)
-    → verdict l c p 0 false (first_case t inv c p) ≡ judge_steps l t inv c (refuting t inv start) (read_steps c p)
-unfolding read_steps
-first_begins l t inv c p = refl
-
-pub first_stands : (l : Limits) (t : Sheet) (inv : Formula) (c : List ℕ) (p : ℕ) (w : List ℕ) (n from : ℕ)
-    → Held l w n from 0 (clause_set t inv start) → Stands l w n from 0 c p (first_case t inv c p)
-first_stands l t inv c p w n from h = record { few = omega arith; held = h; enough = omega arith }
 
 module _ (l : Limits) (c : List ℕ) (p : ℕ) (x : Case) where
   pub fault_is : (f : Refusal) → Ends l c p x (Err f) → verdict l c p 0 false x ≡ refused (refusal_of f)

@@ -11,8 +11,9 @@ use lib.Dec.{eqb}
 use borrow.Author.Tests.{lt-ltb}
 use Rattle.rules.specs.declared.Limits.{Limits}
 use Rattle.rules.specs.Record.{one_of}
-use Rattle.refutation.specs.Memory.{part, Outside}
-use Rattle.refutation.specs.Making.{joined, Built, Grown, Both, union, United, Made.over, Made.late, Made.made, Making, pivots, Tried, Tried.missing, Tried.tried}
+use Rattle.refutation.specs.Memory.{Outside}
+use Rattle.refutation.specs.declared.codes.Spot.{Spot}
+use Rattle.refutation.specs.Making.{codes, joined, Built, Grown, Both, union, United, Made.over, Made.late, Made.made, Making, pivots, Tried, Tried.missing, Tried.tried}
 use Rattle.std.specs.Prelude.{Result, Ok, Err}
 use Rattle.rules.specs.declared.refusals.Fault.{Fault}
 use Rattle.rules.specs.declared.refusals.Fault.TheVariants.{NoPivot, Width, Steps}
@@ -21,15 +22,15 @@ use Rattle.refutation.proofs.PartLaws.{part_front, outside_same, outside_then, o
 none_yet : (w : List ℕ) (a width : ℕ) → Built w a width 0 []
 none_yet w a width = record { counted = omega arith; kept = λ h. refl }
 
-pub unite_end : (w : List ℕ) (a width s count t size p : ℕ) → Both w a width s count t size p
-    → (w₁ : List ℕ) (k : ℕ) → Grown w a width 0 (joined p (part w s count)) w₁ k
-    → (w₂ : List ℕ) (r : ℕ) → Grown w₁ a width k (joined (p + 1) (part w₁ t size)) w₂ r
-    → United w a width (union (part w s count) (part w t size) p) w₂ r
+pub unite_end : (w : List ℕ) (a width : ℕ) (x y : Spot) (p : ℕ) → Both w a width x y p
+    → (w₁ : List ℕ) (k : ℕ) → Grown w a width 0 (joined p (codes w x)) w₁ k
+    → (w₂ : List ℕ) (r : ℕ) → Grown w₁ a width k (joined (p + 1) (codes w₁ y)) w₂ r
+    → United w a width (union (codes w x) (codes w y) p) w₂ r
 unfolding union
-unite_end w a width s count t size p o w₁ k g w₂ r h =
-    let f : part w₁ t size ≡ part w t size = part_front w w₁ a t size g.outside.front o.second in
+unite_end w a width x y p o w₁ k g w₂ r h =
+    let f : codes w₁ y ≡ codes w y = part_front w w₁ a y.start y.count g.outside.front o.second in
     record {
-      built = rw f at (h.built (joined p (part w s count) []) (g.built [] (none_yet w a width)));
+      built = rw f at (h.built (joined p (codes w x) []) (g.built [] (none_yet w a width)));
       outside = outside_then a (a + width) w w₁ w₂ g.outside h.outside;
     }
 
@@ -55,32 +56,32 @@ module _ (l : Limits) (w : List ℕ) (at m : ℕ) (xs w₂ : List ℕ) (r : ℕ)
 
 pub ruleset resolve_cases = (too_wide, too_late, kept_so)
 
-module _ (l : Limits) (w : List ℕ) (at m s count t size v : ℕ) where
-  pub no_pivot : v ≡ 0 → Tried l m w at (part w s count) (part w t size) v w (Err NoPivot)
+module _ (l : Limits) (w : List ℕ) (at m : ℕ) (first second : Spot) (v : ℕ) where
+  pub no_pivot : v ≡ 0 → Tried l m w at (codes w first) (codes w second) v w (Err NoPivot)
   unfolding pivots
   no_pivot e = missing (rw e) (outside_same at (at + (l.width + 1)) w)
 
-  module _ (y : ℕ) (q : y ≡ v) (a : Bool) (e : a ≡ one_of (part w s count) (2 * y)) where
-    pub not_plain : a ≡ false → Tried l m w at (part w s count) (part w t size) v w (Err NoPivot)
+  module _ (y : ℕ) (q : y ≡ v) (a : Bool) (e : a ≡ one_of (codes w first) (2 * y)) where
+    pub not_plain : a ≡ false → Tried l m w at (codes w first) (codes w second) v w (Err NoPivot)
     unfolding pivots
     not_plain z =
-        let f : one_of (part w s count) (2 * v) ≡ false = rw q at (sym e ∙ z) in
+        let f : one_of (codes w first) (2 * v) ≡ false = rw q at (sym e ∙ z) in
         missing (rw (f, and-false)) (outside_same at (at + (l.width + 1)) w)
 
-    module _ (b : Bool) (f : b ≡ one_of (part w t size) (2 * y + 1)) where
-      pub not_negated : b ≡ false → Tried l m w at (part w s count) (part w t size) v w (Err NoPivot)
+    module _ (b : Bool) (f : b ≡ one_of (codes w second) (2 * y + 1)) where
+      pub not_negated : b ≡ false → Tried l m w at (codes w first) (codes w second) v w (Err NoPivot)
       unfolding pivots
       not_negated z =
-          let g : one_of (part w t size) (2 * v + 1) ≡ false = rw q at (sym f ∙ z) in
+          let g : one_of (codes w second) (2 * v + 1) ≡ false = rw q at (sym f ∙ z) in
           missing (rw (g, and-false, and-false)) (outside_same at (at + (l.width + 1)) w)
 
       pub resolved : a ≡ true → b ≡ true → (v ≡ 0 → ⊥) → (w' : List ℕ) (r : Result Bool Fault)
-          → Making l m w at (union (part w s count) (part w t size) (2 * y)) w' r → Tried l m w at (part w s count) (part w t size) v w' r
+          → Making l m w at (union (codes w first) (codes w second) (2 * y)) w' r → Tried l m w at (codes w first) (codes w second) v w' r
       unfolding pivots
       resolved z z' h w' r g =
           let j : 0 < v = omega arith in
-          let c : one_of (part w s count) (2 * v) ≡ true = rw q at (sym e ∙ z) in
-          let d : one_of (part w t size) (2 * v + 1) ≡ true = rw q at (sym f ∙ z') in
+          let c : one_of (codes w first) (2 * v) ≡ true = rw q at (sym e ∙ z) in
+          let d : one_of (codes w second) (2 * v + 1) ≡ true = rw q at (sym f ∙ z') in
           tried (rw (lt-ltb 0 v j, c, d)) (rw q at g)
 
 pub ruleset pivoted_cases = (no_pivot, not_plain, not_negated, resolved)

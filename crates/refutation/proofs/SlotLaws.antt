@@ -63,7 +63,7 @@ placed_before {l} {w} {n} {from} {m} {i} f (in_slot a b c d e) =
     omega arith
 
 pub pair_of : (l : Limits) (w : List ℕ) (n from m i j at : ℕ) (x y : Spot) → Fit l w n from m → Slotted l w from m at
-    → Placed l w n from m i (Some x) → Placed l w n from m j (Some y) → Pair l w at x.start x.count y.start y.count
+    → Placed l w n from m i (Some x) → Placed l w n from m j (Some y) → Pair l w at x y
 pair_of l w n from m i j at x y f o p q = record {
   first = omega (arith, placed_before f p, o.starts);
   second = omega (arith, placed_before f q, o.starts);

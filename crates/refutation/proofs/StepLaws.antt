@@ -13,7 +13,7 @@ use Rattle.rules.specs.Certificate.{Step}
 use Rattle.rules.specs.Clauses
 use Rattle.rules.specs.Resolution.{resolvent, is_there, nth, derive, Derived.clause, Derived.fault}
 use Rattle.refutation.specs.Memory.{part, Means, Slot, slot_at, Held, Fit, Outside}
-use Rattle.refutation.specs.Making.{Slotted, Placed, union, Made, Made.over, Made.late, Made.made, pivots, Tried, Tried.missing, Tried.tried}
+use Rattle.refutation.specs.Making.{codes, Slotted, Placed, union, Made, Made.over, Made.late, Made.made, pivots, Tried, Tried.missing, Tried.tried}
 use Rattle.refutation.specs.Steps.{Follows.refuses, Follows.derives, FitNext, Stepped}
 use Rattle.std.specs.Prelude.{Some, None, Result, Err}
 use Rattle.rules.specs.declared.refusals.Fault.{Fault}
@@ -60,10 +60,10 @@ module _ (l : Limits) (w : List ℕ) (n from m : ℕ) (q : Step) where
   module _ (f : Fit l w n from m) (a : ℕ) (o : Slotted l w from m a) (first second : Spot) (p : Placed l w n from m q.first (Some first))
       (p' : Placed l w n from m q.second (Some second)) (w' : List ℕ) (long : length w' ≡ length w) where
     abbrev bs : List ℕ
-    bs = part w first.start first.count
+    bs = codes w first
 
     abbrev ds : List ℕ
-    ds = part w second.start second.count
+    ds = codes w second
 
     around : Outside a (a + (l.width + 1)) w w' → Outside (slot_at l from m) (slot_at l from (m + 1)) w w'
     around g =
@@ -136,6 +136,6 @@ module _ (l : Limits) (w : List ℕ) (n from m : ℕ) (q : Step) where
     step_tried (tried v g) = step_made v g.outside g.made
 
   pub stepped : Fit l w n from m → (a : ℕ) → Slotted l w from m a → (x y : Spot) → Placed l w n from m q.first (Some x) → Placed l w n from m q.second (Some y)
-      → (w' : List ℕ) → length w' ≡ length w → (d : Result Bool Fault) → Tried l m w a (part w x.start x.count) (part w y.start y.count) q.pivot w' d
+      → (w' : List ℕ) → length w' ≡ length w → (d : Result Bool Fault) → Tried l m w a (codes w x) (codes w y) q.pivot w' d
       → Stepped l w n from m q w' d
   stepped f a o x y p p' w' long d g = step_tried f a o x y p p' w' long g

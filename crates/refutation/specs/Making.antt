@@ -8,6 +8,10 @@ use Rattle.rules.specs.declared.refusals.Fault.{Fault}
 use Rattle.rules.specs.declared.refusals.Fault.TheVariants.{NoPivot, Width, Steps}
 use Rattle.refutation.specs.declared.codes.Spot.{Spot}
 
+-- the codes at a spot
+abbrev pub codes : List ℕ → Spot → List ℕ
+codes w x = part w x.start x.count
+
 -- r is where derived clause number j has its slot, which lies within memory
 pub record Slotted (l : Limits) (w : List ℕ) (from j r : ℕ) : Type 0 where
   pub starts : r ≡ slot_at l from j
@@ -50,15 +54,15 @@ pub record Grown (w : List ℕ) (a width k : ℕ) (f : List ℕ → List ℕ) (w
   pub upto : r ≤ width + 1
   pub outside : Outside a (a + width) w w'
 
--- a clause of count places from place s on lies below the one at place a
-pub record Apart (w : List ℕ) (a width k s count : ℕ) : Type 0 where
+-- a clause lies below the one at place a
+pub record Apart (w : List ℕ) (a width k : ℕ) (x : Spot) : Type 0 where
   pub space : Space w a width k
-  pub apart : s + count ≤ a
+  pub apart : x.start + x.count ≤ a
 
 -- two clauses lie below the one at place a, for which there is room; p and the code after it are numbers of the code's own
-pub record Both (w : List ℕ) (a width s count t size p : ℕ) : Type 0 where
-  pub first : s + count ≤ a
-  pub second : t + size ≤ a
+pub record Both (w : List ℕ) (a width : ℕ) (x y : Spot) (p : ℕ) : Type 0 where
+  pub first : x.start + x.count ≤ a
+  pub second : y.start + y.count ≤ a
   pub fits : a + width ≤ length w
   pub code : p < 131072
 
@@ -72,9 +76,9 @@ pub record United (w : List ℕ) (a width : ℕ) (xs w' : List ℕ) (r : ℕ) : 
   pub outside : Outside a (a + width) w w'
 
 -- the two clauses of a STEP lie below the slot at place a, which lies within memory
-pub record Pair (l : Limits) (w : List ℕ) (a s count t size : ℕ) : Type 0 where
-  pub first : s + count ≤ a
-  pub second : t + size ≤ a
+pub record Pair (l : Limits) (w : List ℕ) (a : ℕ) (x y : Spot) : Type 0 where
+  pub first : x.start + x.count ≤ a
+  pub second : y.start + y.count ≤ a
   pub fits : a + (l.width + 1) ≤ length w
   pub narrow : l.width < 65536
 

@@ -5,12 +5,12 @@ mod codes;
 mod marks;
 
 ghost use Rattle.std.specs.Prelude.{◌≡◌, ◌≤◌, ◌<◌, length};
-ghost use Rattle.refutation.specs.Memory.{part, Room, Fit};
-ghost use Rattle.refutation.specs.Making.{Slotted, Placed, Pair, union, Making, Tried};
+ghost use Rattle.refutation.specs.Memory.{Room, Fit};
+ghost use Rattle.refutation.specs.Making.{codes, Slotted, Placed, Pair, union, Making, Tried};
 ghost use Rattle.refutation.specs.Steps.{step_of, Stepped};
 ghost use Rattle.refutation.specs.Judging.{Judged, Ended};
 
-use codes::{Spot, has, unite};
+use codes::{Site, Spot, has, unite};
 use marks::{Mark, mark_at};
 use records::{Common, Kind};
 use rules::{Answer, Fault, Limits, Refusal};
@@ -75,10 +75,14 @@ fn resolve(
     second: Spot,
     p: usize,
 ) -> Result<bool, Fault>
-    requires { Pair l work.old at first.start first.count second.start second.count × (p < 131072) }
-    ensures { Making l m work.old at (union (part work.old first.start first.count) (part work.old second.start second.count) p) work.new result }
+    requires { Pair l work.old at first second × (p < 131072) }
+    ensures { Making l m work.old at (union (codes work.old first) (codes work.old second) p) work.new result }
 {
-    let r = unite(work, at + 1, l.width, first, second, p);
+    let site = Site {
+        at: at + 1,
+        width: l.width,
+    };
+    let r = unite(work, site, first, second, p);
     if l.width < r {
         return Err(Fault::Width);
     }
@@ -100,8 +104,8 @@ fn pivoted(
     second: Spot,
     pivot: u16,
 ) -> Result<bool, Fault>
-    requires { Pair l work.old at first.start first.count second.start second.count }
-    ensures { Tried l m work.old at (part work.old first.start first.count) (part work.old second.start second.count) pivot work.new result }
+    requires { Pair l work.old at first second }
+    ensures { Tried l m work.old at (codes work.old first) (codes work.old second) pivot work.new result }
 {
     let p = 2 * usize::from(pivot);
     if pivot == 0 || !has(work, first, p) || !has(work, second, p + 1) {

@@ -1,15 +1,13 @@
-use Rattle.std.proofs.Common.{rules}
-use Rattle.clauses.proofs.TranslateLaws.{translate_cases}
+use Rattle.std.proofs.Common.{refl}
+use Rattle.std.proofs.lemmas.Result.{err_from_is_err_and}
+use Rattle.std.specs.Prelude.{Ok, Err}
+use Rattle.clauses.proofs.TranslateLaws.{no_set, translated}
 use Rattle.clauses.proofs.translate.Goals as goal
 
-pub returns-then-set-lt1 : goal.returns-then-set-lt1
-returns-then-set-lt1 c = search (rules, translate_cases)
-
-pub returns-then-set-gt3 : goal.returns-then-set-gt3
-returns-then-set-gt3 c = search (rules, translate_cases)
-
-pub translate_sheet-requires : goal.translate_sheet-requires
-translate_sheet-requires c = search (rules, translate_cases)
+pub returns-in_err-set : goal.returns-in_err-set
+returns-in_err-set c =
+    let p = err_from_is_err_and c.from_residual.result c.from_residual.ensures.1 in
+    rw p.1 (no_set _ _ _ _ (Err _) c.in_err-set.ensures _ refl _ p.2)
 
 pub returns : goal.returns
-returns c = search (rules, translate_cases)
+returns c = translated _ _ _ _ (Ok _) c.in_ok-set.ensures _ refl _ c.limits.ensures _ _ c.translate_sheet.ensures

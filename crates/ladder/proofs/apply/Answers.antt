@@ -1,54 +1,36 @@
 use Rattle.std.proofs.Common.{rules}
-use Rattle.ladder.proofs.ApplyLaws.{apply_needs, apply_cases}
+use mathlib.Core.Path.{◌≡◌}
+use mathlib.Core.Bool.{◌&&◌, ◌||◌}
+use Rattle.ladder.proofs.ApplyLaws.{and_on, and_off, or_on, or_off, apply_cases}
 use Rattle.ladder.proofs.apply.Goals as goal
+use Rattle.ladder.proofs.apply.Goals.{then-x, else-x, then-x-2, else-x-2}
 
-pub bounds-inputs-i : goal.bounds-inputs-i
-bounds-inputs-i c = search (rules, apply_needs, apply_cases)
+pub bounds-inputs-from : goal.bounds-inputs-from
+bounds-inputs-from c = search (rules, apply_cases)
 
-pub push-requires : goal.push-requires
-push-requires c = search (rules, apply_needs, apply_cases)
+pub bounds-coils-from : goal.bounds-coils-from
+bounds-coils-from c = search (rules, apply_cases)
 
-pub bounds-coils-c : goal.bounds-coils-c
-bounds-coils-c c = search (rules, apply_needs, apply_cases)
+pub returns-in-Input-clause-applied : goal.returns-in-Input-clause-applied
+returns-in-Input-clause-applied c = search (rules, apply_cases)
 
-pub push-requires-in-Coil : goal.push-requires-in-Coil
-push-requires-in-Coil c = search (rules, apply_needs, apply_cases)
+pub returns-in-Coil-clause-applied : goal.returns-in-Coil-clause-applied
+returns-in-Coil-clause-applied c = search (rules, apply_cases)
 
-pub push-requires-in-Constant : goal.push-requires-in-Constant
-push-requires-in-Constant c = search (rules, apply_needs, apply_cases)
+pub returns-in-Constant-clause-applied : goal.returns-in-Constant-clause-applied
+returns-in-Constant-clause-applied c = search (rules, apply_cases)
 
-pub overflow_sub-depth : goal.overflow_sub-depth
-overflow_sub-depth c = search (rules, apply_needs, apply_cases)
+pub returns-in-Not-clause-applied : goal.returns-in-Not-clause-applied
+returns-in-Not-clause-applied c = search (rules, apply_cases)
 
-pub overflow_sub-depth-in-And : goal.overflow_sub-depth-in-And
-overflow_sub-depth-in-And c = search (rules, apply_needs, apply_cases)
+pub returns-after-x-clause-applied : goal.returns-after-x-clause-applied
+returns-after-x-clause-applied c =
+    let e : c.if-x.push ≡ (c.pop-x-in-And.result && c.pop-y.result) =
+    elim c.if-x.branch [ then-x w ↦ and_on c.pop-x-in-And.result c.pop-y.result c.if-x.push w.if-x.true w.push-is | else-x w ↦ and_off c.pop-x-in-And.result c.pop-y.result c.if-x.push w.if-x.false w.push-is ] in
+    search (rules, apply_cases)
 
-pub both-requires : goal.both-requires
-both-requires c = search (rules, apply_needs, apply_cases)
-
-pub overflow_sub-depth-in-Or : goal.overflow_sub-depth-in-Or
-overflow_sub-depth-in-Or c = search (rules, apply_needs, apply_cases)
-
-pub either-requires : goal.either-requires
-either-requires c = search (rules, apply_needs, apply_cases)
-
-pub returns-in-Input : goal.returns-in-Input
-returns-in-Input c = search (rules, apply_needs, apply_cases)
-
-pub returns-in-Coil : goal.returns-in-Coil
-returns-in-Coil c = search (rules, apply_needs, apply_cases)
-
-pub returns-in-Constant : goal.returns-in-Constant
-returns-in-Constant c = search (rules, apply_needs, apply_cases)
-
-pub returns-in-Not : goal.returns-in-Not
-returns-in-Not c = search (rules, apply_needs, apply_cases)
-
-pub returns-in-And : goal.returns-in-And
-returns-in-And c = search (rules, apply_needs, apply_cases)
-
-pub returns-in-Or : goal.returns-in-Or
-returns-in-Or c = search (rules, apply_needs, apply_cases)
-
-pub returns-in-Closing : goal.returns-in-Closing
-returns-in-Closing c = search (rules, apply_needs, apply_cases)
+pub returns-after-x-2-clause-applied : goal.returns-after-x-2-clause-applied
+returns-after-x-2-clause-applied c =
+    let e : c.if-x-2.push ≡ (c.pop-x-in-Or.result || c.pop-y-in-Or.result) =
+    elim c.if-x-2.branch [ then-x-2 w ↦ or_on c.pop-x-in-Or.result c.pop-y-in-Or.result c.if-x-2.push w.if-x-2.true w.push-is | else-x-2 w ↦ or_off c.pop-x-in-Or.result c.pop-y-in-Or.result c.if-x-2.push w.if-x-2.false w.push-is ] in
+    search (rules, apply_cases)

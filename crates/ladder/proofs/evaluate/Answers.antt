@@ -1,33 +1,27 @@
+use mathlib.Core.Path.{refl, sym, ◌∙◌}
 use Rattle.std.proofs.Common.{rules}
-use Rattle.ladder.proofs.EvaluateLaws.{evaluate_cases}
+use Rattle.ladder.proofs.EvaluateLaws.{turning, value_to_take, evaluated, evaluate_cases}
 use Rattle.ladder.proofs.evaluate.Goals as goal
 
-pub loop-part-init : goal.loop-part-init
-loop-part-init c = search (rules, evaluate_cases)
+pub pop-requires : goal.pop-requires
+pop-requires c = value_to_take _ _ _ _ _ _ _ _ c.loop-stack.invariant.turning _ c.part_at-part.ensures c.requires c.in-Closing.is
 
-pub part_at-part-requires : goal.part_at-part-requires
-part_at-part-requires c = search (rules, evaluate_cases)
+pub returns-in-Closing : goal.returns-in-Closing
+returns-in-Closing c =
+    let n = sym (c.pop.ensures.same ∙ c.loop-stack.invariant.same) in
+    search (rules, evaluated _ _ _ _ _ _ _ _ c.loop-stack.invariant.turning _ c.part_at-part.ensures c.in-Closing.is)
 
-pub part_length-n-requires : goal.part_length-n-requires
-part_length-n-requires c = search (rules, evaluate_cases)
-
-pub bounds-stack-0 : goal.bounds-stack-0
-bounds-stack-0 c = search (rules, evaluate_cases)
-
-pub shape_of-stack-then-n-eq0 : goal.shape_of-stack-then-n-eq0
-shape_of-stack-then-n-eq0 c = search (rules, evaluate_cases)
-
-pub returns-then-n-eq0 : goal.returns-then-n-eq0
-returns-then-n-eq0 c = search (rules, evaluate_cases)
-
-pub apply-depth-requires : goal.apply-depth-requires
-apply-depth-requires c = search (rules, evaluate_cases)
+pub apply-requires : goal.apply-requires
+apply-requires c = search (rules, evaluate_cases)
 
 pub overflow_add-at : goal.overflow_add-at
 overflow_add-at c = search (rules, evaluate_cases)
 
-pub loop-part-smaller : goal.loop-part-smaller
-loop-part-smaller c = search (rules, evaluate_cases)
+pub loop-stack-smaller : goal.loop-stack-smaller
+loop-stack-smaller c = search (rules, evaluate_cases)
 
-pub loop-part-preserved : goal.loop-part-preserved
-loop-part-preserved c = search (rules, evaluate_cases)
+pub loop-stack-init : goal.loop-stack-init
+loop-stack-init c = record { same = refl; turning = turning _ _ _ _ _ }
+
+pub loop-stack-preserved : goal.loop-stack-preserved
+loop-stack-preserved c = record { same = c.apply.ensures.same ∙ c.loop-stack.invariant.same; turning = search (rules, evaluate_cases) }

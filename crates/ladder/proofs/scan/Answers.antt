@@ -1,15 +1,10 @@
-use Rattle.std.proofs.Common.{rules}
-use Rattle.ladder.proofs.ScannedLaws.{scan_cases}
+use Rattle.ladder.proofs.ScannedLaws.{few_inputs, few_coils}
 use Rattle.ladder.proofs.scan.Goals as goal
+use Rattle.ladder.proofs.scan.Goals.{then-inputs-l-via-then-inputs-l, then-inputs-l-via-else-inputs-l+then-coils-l}
 
-pub returns-then-inputs-i : goal.returns-then-inputs-i
-returns-then-inputs-i c = search (rules, scan_cases)
-
-pub returns-then-coils-c : goal.returns-then-coils-c
-returns-then-coils-c c = search (rules, scan_cases)
-
-pub scan_within-requires : goal.scan_within-requires
-scan_within-requires c = search (rules, scan_cases)
-
-pub returns : goal.returns
-returns c = search (rules, scan_cases)
+pub returns-then-inputs-l : goal.returns-then-inputs-l
+returns-then-inputs-l c =
+    elim c.then-inputs-l.branch [
+      | then-inputs-l-via-then-inputs-l w ↦ rw c.at.ensures (few_inputs _ _ _ (rw c.limits-l.ensures at w.if-inputs-l.true))
+      | then-inputs-l-via-else-inputs-l+then-coils-l w ↦ rw c.at.ensures (few_coils _ _ _ (rw c.limits-l.ensures at w.if-coils-l.true))
+    ]

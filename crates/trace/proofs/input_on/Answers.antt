@@ -5,8 +5,8 @@ use Rattle.trace.proofs.input_on.Goals as goal
 pub returns-then-known-n : goal.returns-then-known-n
 returns-then-known-n c = search (rules, input_on_cases)
 
-pub returns-then-n-least : goal.returns-then-n-least
-returns-then-n-least c = search (rules, input_on_cases)
+pub returns-then-n-p : goal.returns-then-n-p
+returns-then-n-p c = search (rules, input_on_cases)
 
 pub returns : goal.returns
 returns c = search (rules, input_on_cases)

@@ -1,16 +1,15 @@
-use Rattle.std.proofs.Common.{rules}
-use native.Mathlib.Omega.{arith}
-use mathlib.Core.Path.{refl}
-use Rattle.checker.proofs.CheckedLaws.{judge_bytes_cases, opened_for, sheet_good}
+use Rattle.std.proofs.Common.{rules, Err}
+use Rattle.checker.specs.Checked.{JudgesBytes}
+use Rattle.checker.proofs.CheckedLaws.{sheet_bad, opened_for, sheet_good}
 use Rattle.checker.proofs.judged.judge_bytes.Goals as goal
 
+pub returns-in_err-h : goal.returns-in_err-h
+returns-in_err-h c =
+    let f : JudgesBytes c.args.l c.args.s.now c.args.c.now (Err c.in_err-h.field-0.0) = sheet_bad _ _ _ _ _ _ c.in_err-h.ensures in
+    search (rules, f)
+
 pub judge_opened-requires : goal.judge_opened-requires
-judge_opened-requires c =
-    opened_for _ _ _ _ _ _ c.read_sheet.ensures _ (search rules) _ c.requires (λ k. omega (arith, c.type_inv.s k)) (λ k. omega (arith, c.type_inv.c k)) refl
+judge_opened-requires c = opened_for _ _ _ _ _ c.in_ok-h.h c.in_ok-h.ensures _ c.requires (λ i. (c.type_inv.s i).fits) (λ i. (c.type_inv.c i).fits)
 
-pub returns-in-Bad : goal.returns-in-Bad
-returns-in-Bad c = search (rules, judge_bytes_cases)
-
-pub returns-in-Good : goal.returns-in-Good
-returns-in-Good c =
-    sheet_good _ _ _ _ _ _ c.read_sheet.ensures _ (search rules) _ c.requires (λ k. omega (arith, c.type_inv.s k)) (λ k. omega (arith, c.type_inv.c k)) refl _ c.judge_opened.ensures
+pub returns : goal.returns
+returns c = sheet_good _ _ _ _ _ c.in_ok-h.h c.in_ok-h.ensures _ c.requires (λ i. (c.type_inv.s i).fits) (λ i. (c.type_inv.c i).fits) _ c.judge_opened.ensures

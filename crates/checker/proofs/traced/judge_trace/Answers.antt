@@ -2,11 +2,8 @@ use Rattle.std.proofs.Common.{rules}
 use Rattle.checker.proofs.TracedLaws.{judge_trace_cases}
 use Rattle.checker.proofs.traced.judge_trace.Goals as goal
 
-pub initialise-requires : goal.initialise-requires
-initialise-requires c = search (rules, judge_trace_cases)
-
-pub replay-requires : goal.replay-requires
-replay-requires c = search (rules, judge_trace_cases)
+pub play-requires : goal.play-requires
+play-requires c = search (rules, judge_trace_cases)
 
 pub returns : goal.returns
 returns c = search (rules, judge_trace_cases)

@@ -1,48 +1,20 @@
-use Rattle.std.proofs.Common.{rules}
-use Rattle.clauses.proofs.EnterLaws.{ready_cases, enter_cases}
+use Rattle.clauses.proofs.EnterLaws.{reached, entered_closing, definable, taken, taken_room, entered}
 use Rattle.clauses.proofs.formula.enter.Goals as goal
 
-pub overflow_add-base : goal.overflow_add-base
-overflow_add-base c = search (rules, ready_cases, enter_cases)
+pub gate_of-requires : goal.gate_of-requires
+gate_of-requires c = reached _ _ _ _ _ _ _ c.requires
 
-pub put_contact-requires : goal.put_contact-requires
-put_contact-requires c = search (rules, ready_cases, enter_cases)
+pub overflow_sub-k : goal.overflow_sub-k
+overflow_sub-k c = taken _ _ _ _ _ _ _ c.requires _ c.in-Some.ensures _ c.values.ensures
 
-pub bounds-map-i : goal.bounds-map-i
-bounds-map-i c = search (rules, ready_cases, enter_cases)
+pub define-requires : goal.define-requires
+define-requires c = definable _ _ _ _ _ _ _ c.requires _ c.in-Some.ensures
 
-pub put_contact-requires-in-Coil : goal.put_contact-requires-in-Coil
-put_contact-requires-in-Coil c = search (rules, ready_cases, enter_cases)
+pub bounds-stack-k : goal.bounds-stack-k
+bounds-stack-k c = taken_room _ _ _ _ _ _ _ c.requires _ c.in-Some.ensures _ c.values.ensures
 
-pub put_constant-requires : goal.put_constant-requires
-put_constant-requires c = search (rules, ready_cases, enter_cases)
+pub returns-in_default : goal.returns-in_default
+returns-in_default c = entered_closing _ _ _ _ _ _ _ c.requires _ c.in_default.ensures
 
-pub put_not-requires : goal.put_not-requires
-put_not-requires c = search (rules, ready_cases, enter_cases)
-
-pub put_and-requires : goal.put_and-requires
-put_and-requires c = search (rules, ready_cases, enter_cases)
-
-pub put_or-requires : goal.put_or-requires
-put_or-requires c = search (rules, ready_cases, enter_cases)
-
-pub returns-in-Input : goal.returns-in-Input
-returns-in-Input c = search (rules, ready_cases, enter_cases)
-
-pub returns-in-Coil : goal.returns-in-Coil
-returns-in-Coil c = search (rules, ready_cases, enter_cases)
-
-pub returns-in-Constant : goal.returns-in-Constant
-returns-in-Constant c = search (rules, ready_cases, enter_cases)
-
-pub returns-in-Not : goal.returns-in-Not
-returns-in-Not c = search (rules, ready_cases, enter_cases)
-
-pub returns-in-And : goal.returns-in-And
-returns-in-And c = search (rules, ready_cases, enter_cases)
-
-pub returns-in-Or : goal.returns-in-Or
-returns-in-Or c = search (rules, ready_cases, enter_cases)
-
-pub returns-in-Closing : goal.returns-in-Closing
-returns-in-Closing c = search (rules, ready_cases, enter_cases)
+pub returns : goal.returns
+returns c = entered _ _ _ _ _ _ _ c.requires _ c.in-Some.ensures _ c.values.ensures _ _ _ c.define.ensures

@@ -3,37 +3,37 @@ use Rattle.clauses.proofs.SetLaws.{set_rungs}
 use Rattle.clauses.proofs.SafeSetLaws.{safe_condition, safe_before, safe_top, safe_small, safe_written}
 use Rattle.clauses.proofs.sets.safe_set.Goals as goal
 
-pub rung_clauses-r-requires : goal.rung_clauses-r-requires
-rung_clauses-r-requires c = search (rules, set_rungs)
+pub ladder-r-requires : goal.ladder-r-requires
+ladder-r-requires c = search (rules, set_rungs)
 
 pub formula_clauses-q-requires : goal.formula_clauses-q-requires
 formula_clauses-q-requires c =
-    let r = c.rung_clauses-r in
-    safe_condition _ _ _ _ _ _ c.requires _ _ _ _ r.ensures _ r.auto.stack r.auto.map
+    let r = c.ladder-r in
+    safe_condition _ _ _ _ _ c.requires.there c.requires.lent _ _ _ _ r.ensures r.auto.map
 
 pub formula_top-i-requires : goal.formula_top-i-requires
 formula_top-i-requires c =
-    let r = c.rung_clauses-r in
+    let r = c.ladder-r in
     let q = c.formula_clauses-q in
-    safe_before _ _ _ _ _ _ c.requires _ _ _ _ r.ensures _ r.auto.stack r.auto.map _ _ q.ensures _ q.auto.stack
+    safe_before _ _ _ _ _ c.requires.there c.requires.lent _ _ _ _ r.ensures r.auto.map _ _ q.ensures
 
-pub overflow_sub-g : goal.overflow_sub-g
-overflow_sub-g c =
-    let r = c.rung_clauses-r in
+pub overflow_sub-q : goal.overflow_sub-q
+overflow_sub-q c =
+    let r = c.ladder-r in
     let q = c.formula_clauses-q in
-    safe_top _ _ _ _ _ _ c.requires _ _ _ _ r.ensures _ r.auto.stack r.auto.map _ _ q.ensures q.new.stack q.auto.stack
+    safe_top _ _ _ _ _ c.requires.there c.requires.lent _ _ _ _ r.ensures r.auto.map _ _ q.ensures
 
-pub constant-requires : goal.constant-requires
-constant-requires c =
-    let r = c.rung_clauses-r in
+pub unit-requires : goal.unit-requires
+unit-requires c =
+    let r = c.ladder-r in
     let q = c.formula_clauses-q in
     let i = c.formula_top-i in
-    safe_small _ _ _ _ _ _ c.requires _ _ _ _ r.ensures _ r.auto.stack r.auto.map _ _ q.ensures _ q.auto.stack _ _ i.ensures
+    safe_small _ _ _ _ _ c.requires.there c.requires.lent _ _ _ _ r.ensures r.auto.map _ _ q.ensures _ _ i.ensures
 
 pub returns : goal.returns
 returns c =
-    let r = c.rung_clauses-r in
+    let r = c.ladder-r in
     let q = c.formula_clauses-q in
     let i = c.formula_top-i in
-    safe_written _ _ _ _ _ _ c.requires _ _ _ _ r.ensures _ r.auto.stack r.auto.map _ _ q.ensures _ q.auto.stack
-    _ _ i.ensures _ _ c.constant.ensures
+    safe_written _ _ _ _ _ c.requires.there c.requires.lent _ _ _ _ r.ensures r.auto.map _ _ q.ensures
+    _ _ i.ensures _ _ c.unit.ensures

@@ -1,12 +1,13 @@
 use Rattle.std.proofs.Common.{rules}
-use Rattle.ladder.proofs.ScannedLaws.{scan_within_cases}
+use Rattle.ladder.proofs.ScannedLaws.{bytes_known, sheet_bad, ladder_here, sheet_good}
 use Rattle.ladder.proofs.within.scan_within.Goals as goal
 
-pub scan_once-holds-requires : goal.scan_once-holds-requires
-scan_once-holds-requires c = search (rules, scan_within_cases)
+pub returns-in_err-h : goal.returns-in_err-h
+returns-in_err-h c =
+    search (rules, sheet_bad c.args.l c.args.s.now c.args.inputs.now c.args.coils.now c.args.marks.now c.args.stack.now c.requires c.read_sheet.new.marks c.in_err-h.field-0.0 c.in_err-h.ensures)
 
-pub returns-in-Bad : goal.returns-in-Bad
-returns-in-Bad c = search (rules, scan_within_cases)
+pub scan_once-requires : goal.scan_once-requires
+scan_once-requires c = ladder_here _ _ _ _ _ _ c.requires _ _ c.in_ok-h.ensures (bytes_known _ c.type_inv.s)
 
-pub returns-in-Good : goal.returns-in-Good
-returns-in-Good c = search (rules, scan_within_cases)
+pub returns : goal.returns
+returns c = sheet_good _ _ _ _ _ _ c.requires _ _ c.in_ok-h.ensures (bytes_known _ c.type_inv.s) _ _ _ c.scan_once.ensures

@@ -1,6 +1,0 @@
-use Rattle.std.proofs.Common.{rules}
-use Rattle.ladder.proofs.StackLaws.{put_cases}
-use Rattle.ladder.proofs.inverse.Goals as goal
-
-pub returns : goal.returns
-returns c = search (rules, put_cases)
