@@ -7,7 +7,6 @@ ghost use Rattle.export.specs.Exported.{CheckExported, TranslateExported};
 use rules::Answer;
 
 // 0 accepted, 1 confirmed with the scan as number, 2 refused with number and place.
-#[tactic(auto, using(crate::proofs::ExportedLaws::check_cases))]
 #[unsafe(no_mangle)]
 pub extern "C" fn gustvane_check(
     sheet: &[u8],
@@ -38,7 +37,6 @@ pub extern "C" fn gustvane_check(
 }
 
 // 0 written with the count of clauses as number, 2 refused with number and place.
-#[tactic(auto, using(crate::proofs::ExportedLaws::translate_cases))]
 #[unsafe(no_mangle)]
 pub extern "C" fn gustvane_translate(
     set: u32,

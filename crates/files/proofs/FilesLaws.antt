@@ -1,13 +1,13 @@
 -- The bounds of the two files, by the tests of the code.
 -- Assumes nothing.
 use Prim.Native.Nat.{ℕ, ◌≤◌, ◌<◌}
-use mathlib.Core.Path.{◌≡◌}
-use mathlib.Core.Bool.{true, false, ◌&&◌}
+use mathlib.Core.Path.{◌≡◌, refl}
+use mathlib.Core.Bool.{Bool, true, false, ◌&&◌}
 use mathlib.Core.List.{List}
 use lib.ListN.{length}
 use lib.Dec.{leb}
 use native.Mathlib.Omega.{arith}
-use borrow.Author.Tests.{le-leb, lt-leb}
+use borrow.Author.Tests.{leb-true}
 use Rattle.std.specs.Prelude.{Result, Ok, Err}
 use Rattle.rules.specs.Head.{base_limits}
 use Rattle.rules.specs.Verdict.{answer_of, written_of, count_of, room_after, judge, translation, NamesSet}
@@ -37,7 +37,20 @@ module _ (s c w : List ℕ) where
     named Safe e = rw e
 
     unnamed : (f : Fault) → NamesSet n (Err f) → (leb 1 n && leb n 3) ≡ false
-    unnamed f e = ?
+    unnamed f e = low (leb 1 n) refl
+      where
+        high : (b : Bool) → 1 ≤ n → leb n 3 ≡ b → b ≡ false
+        high false h q = refl
+        high true h q =
+            let u : n ≤ 3 = leb-true n 3 q in
+            let a : n ≡ 1 → ⊥ = e.1 Start in
+            let c : n ≡ 2 → ⊥ = e.1 Keep in
+            let d : n ≡ 3 → ⊥ = e.1 Safe in
+            absurd (omega arith)
+
+        low : (b : Bool) → leb 1 n ≡ b → (b && leb n 3) ≡ false
+        low false q = refl
+        low true q = high (leb n 3) (leb-true 1 n q) refl
 
     pub no_set : (f : Fault) → NamesSet n (Err f) → Translates base_limits base_bounds n s c w w (Err (record { fault = f; place = 0 }))
     unfolding translate_files written_of count_of room_after
