@@ -118,6 +118,7 @@ const NO_SET: &str = "\
 The set's number is not 1, 2 or 3.
 Name one of the three.";
 
+// The lines that a refusal is followed by.
 pub fn reason(fault: Fault) -> &'static str {
     match fault {
         Fault::ShortWorkspace => SHORT_WORKSPACE,

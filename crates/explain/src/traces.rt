@@ -7,16 +7,17 @@ use rules::Fault;
 use std::io;
 use std::io::Print;
 
+// The kinds of the records that a question is put together of.
 const COIL: u8 = 0x11;
 
 const CONDITION: u8 = 0x21;
 
 const END: u8 = 0x2F;
 
-// A contact on a coil as the condition, and the sheet's end.
+// The length of a question: a contact on a coil as the condition, and the sheet's end.
 const QUESTION: usize = 5;
 
-// The end of a list's line.
+// The end of a list's line, whether none was on it.
 fn end_list(rt: &impl Print, none: bool) -> io::Result<()> {
     let end = if none { " none" } else { "" };
     println!(rt; "{end}")

@@ -1,4 +1,4 @@
-use Rattle.std.proofs.Common.{◌≤◌, length, ◌≡◌, ℕ, ◌+◌}
+use Rattle.std.proofs.Common.{◌≤◌, length, ◌+◌}
 use Rattle.explain.proofs.spots.in_refutation.Given as goal
 
 abbrev pub invariant-loop-record : goal.invariant-loop-record
