@@ -15,7 +15,7 @@ use mir.Syntax.{w16}
 use Rattle.base.specs.Pick.{pick}
 use Rattle.base.specs.Lists.{each}
 use Rattle.rules.specs.Kind
-use Rattle.rules.specs.Record.{number}
+use Rattle.rules.specs.Record.{body_length, rows, number}
 use Rattle.rules.specs.Sheet.{Start, start_of}
 use Rattle.rules.specs.WriteSheet.{write_start, bit, RisesFrom}
 use Rattle.rules.specs.Clauses.{Clause, start_units}
@@ -25,19 +25,24 @@ use Rattle.clauses.specs.Emits.{emits, Emitted, Small, signed}
 use Rattle.clauses.specs.Started.{start_at, Started, StartsAt, StartsWritten}
 use Rattle.clauses.proofs.EmitLaws.{emits_append}
 
+-- a byte of no kind is not START's
+pub unknown_byte : (b : ℕ) → body_length b ≡ 255 → eqb b Kind.START ≡ false
+unfolding body_length rows
+unknown_byte b h = ne_eqb b Kind.START (λ (e : b ≡ 2). let z : 3 ≡ 255 = ap body_length (sym e) ∙ h in omega arith)
+
 module _ (bs : List ℕ) (p c : ℕ) where
-  pub other_kind : (k : ℕ) → k ≡ get_or bs 0 0 → (k ≡ 0x02 → ⊥) → record { on = false; at = p } ≡ start_at bs p c
+  pub other_kind : eqb (get_or bs 0 0) Kind.START ≡ false → record { on = false; at = p } ≡ start_at bs p c
   unfolding start_at
-  other_kind k e h = simp (← e, ne_eqb _ _ h)
+  other_kind h = rw h
 
   pub other_coil : (m : ℕ) → m ≡ number bs 1 → (m ≡ c → ⊥) → record { on = false; at = p } ≡ start_at bs p c
   unfolding start_at
   other_coil m e h = rw (← e, ne_eqb _ _ h, and-false)
 
-  pub that_coil : (k m v : ℕ) → k ≡ get_or bs 0 0 → k ≡ 0x02 → m ≡ number bs 1 → m ≡ c → v ≡ get_or bs 3 0
+  pub that_coil : (m v : ℕ) → eqb (get_or bs 0 0) Kind.START ≡ true → m ≡ number bs 1 → m ≡ c → v ≡ get_or bs 3 0
       → record { on = eqb v 1; at = p + 4 } ≡ start_at bs p c
   unfolding start_at
-  that_coil k m v e h f i j = rw (← e, ← f, ← j, h, eq-eqb _ _ i)
+  that_coil m v h f i j = rw (h, ← f, ← j, eq-eqb _ _ i)
 
 pub ruleset start_at_cases = (other_kind, other_coil, that_coil)
 

@@ -17,7 +17,7 @@ pub record Numbered (map : List ℕ) : Type 0 where
   pub few : length map < 32768
   pub at : (c : ℕ) → c < length map → get_or map c 0 ≡ 1 + c
 
--- limits within which a set's own places are enough, two maps of 256 coils and a of 32, and every literal fits 16 bits
+-- limits within which a set's own places are enough, two maps of 256 coils and a stack of 32, and every literal fits 16 bits
 pub record Slight (l : Limits) : Type 0 where
   pub coils_fit : l.coils ≤ 256
   pub depth_fits : l.depth ≤ 32
