@@ -2,119 +2,97 @@
 #![tactic(auto)]
 
 mod reasons;
-mod say;
 mod spots;
 mod traces;
+mod walk;
 
-ghost use Rattle.std.specs.Prelude.{◌≡◌, ◌+◌, ◌≤◌, length};
-ghost use Rattle.files.specs.Files.{base_bounds};
-ghost use Rattle.loading.specs.Loading.{Holds};
+ghost use Rattle.std.specs.Prelude.{◌≤◌, length};
 
 use files::{CERTIFICATE, SHEET};
 use line::ROOM;
-use loading::Loaded;
-use rules::Answer;
+use rules::{Answer, Fault, Refusal, Sheet};
 use std::io;
 use std::io::Print;
 
-fn say_line(rt: &impl Print, answer: Answer) -> io::Result<()> {
+fn say_line(rt: &impl Print, answer: Result<Answer, Refusal>) -> io::Result<()> {
     let mut text = [0u8; ROOM];
     let n = line::write_line(answer, &mut text);
-    say::words(rt, &text[..n])
+    rt.write_all(&text[..n])
 }
 
 fn say_unreadable(rt: &impl Print) -> io::Result<()> {
     let mut text = [0u8; ROOM];
     let n = line::write_unreadable(&mut text);
-    say::words(rt, &text[..n])?;
-    reasons::unreadable(rt)
+    rt.write_all(&text[..n])?;
+    println!(rt; "A file's name is missing, or a file cannot be opened or read.")?;
+    println!(rt; "Give two names: the sheet's, then the certificate's.")
 }
 
-// A refusal's meaning, and the record at its place; 1, 27, 28 and 29 have none.
+// What a refusal means, and where the record at its place stands.
 fn say_refused(
     rt: &impl Print,
     sheet: &[u8],
     certificate: &[u8],
-    no: u8,
-    place: usize,
+    refusal: Refusal,
 ) -> io::Result<()> {
-    reasons::refusal(rt, no)?;
-    if no < 2 {
-        return Ok(());
-    }
-    if no < 12 {
-        return spots::in_sheet(rt, sheet, place);
-    }
-    if no < 27 {
-        return spots::in_certificate(rt, certificate, no, place);
-    }
-    Ok(())
-}
-
-// What an answer means, of the sheet in the first n bytes of `sheet` and the certificate in the first m of `certificate`.
-fn say_meaning(
-    rt: &impl Print,
-    answer: Answer,
-    sheet: &mut [u8],
-    n: usize,
-    certificate: &mut [u8],
-    m: usize,
-    work: &mut [u16],
-) -> io::Result<()>
-    requires n_in_bounds { n ≤ length sheet.old }
-    requires m_in_bounds { m ≤ length certificate.old }
-{
-    match answer {
-        Answer::Accepted => reasons::accepted(rt),
-        Answer::Confirmed { scan } => traces::confirmed(rt, sheet, n, certificate, m, scan, work),
-        Answer::Refused { no, place } => say_refused(rt, &sheet[..n], &certificate[..m], no, place),
+    println!(rt; "{}", reasons::reason(refusal.fault))?;
+    let place = refusal.place;
+    match refusal.fault {
+        Fault::ShortWorkspace | Fault::FileSize | Fault::ShortRoom | Fault::NoSet => Ok(()),
+        Fault::SheetEnds
+        | Fault::SheetKind
+        | Fault::SheetRange
+        | Fault::StartOrder
+        | Fault::SheetOperands
+        | Fault::SheetDepth
+        | Fault::SheetRecords
+        | Fault::CoilTwice
+        | Fault::RungCount
+        | Fault::AfterSheet => spots::in_sheet(rt, sheet, place),
+        Fault::CertificateEnds
+        | Fault::CertificateKind
+        | Fault::CertificateRange
+        | Fault::InvariantOperands
+        | Fault::InvariantDepth
+        | Fault::InvariantRecords
+        | Fault::AfterCertificate => spots::in_certificate(rt, certificate, place),
+        Fault::NoClause | Fault::NoPivot | Fault::Width | Fault::Steps | Fault::NotEmpty => {
+            spots::in_refutation(rt, certificate, place)
+        }
+        Fault::InputOrder | Fault::ScanCount | Fault::ConditionHeld => {
+            spots::in_trace(rt, certificate, place)
+        }
     }
 }
 
-// The line, and what it means.
-fn explain(
-    rt: &impl Print,
-    sheet: &mut [u8],
-    n: usize,
-    certificate: &mut [u8],
-    m: usize,
-    work: &mut [u16],
-) -> io::Result<()>
-    requires n_in_bounds { n ≤ length sheet.old }
-    requires m_in_bounds { m ≤ length certificate.old }
+// The line, and what it means, of the sheet in the first n bytes of its room.
+fn explain(rt: &impl Print, sheet: &mut [u8], n: usize, certificate: &mut [u8]) -> io::Result<()>
+    requires { n ≤ length sheet.old }
 {
-    let answer = files::judge_files(&sheet[..n], &certificate[..m], work);
+    let mut work = [0u16; Sheet::PLACES];
+    let answer = files::judge_files(&sheet[..n], certificate, &mut work);
     say_line(rt, answer)?;
-    say_meaning(rt, answer, sheet, n, certificate, m, work)
+    match answer {
+        Ok(Answer::Accepted) => {
+            println!(rt;
+                "The certificate proves that the condition holds after every scan, whatever the inputs."
+            )
+        }
+        Ok(Answer::Confirmed { scan }) => {
+            traces::confirmed(rt, sheet, certificate, scan, &mut work)
+        }
+        Err(refusal) => say_refused(rt, &sheet[..n], certificate, refusal),
+    }
 }
 
-// What was read of the two files, in rooms that hold one byte past each bound.
-fn answer(
-    rt: &impl Print,
-    a: Loaded,
-    sheet: &mut [u8],
-    b: Loaded,
-    certificate: &mut [u8],
-) -> io::Result<()>
-    requires sheet_holds { Holds sheet.old 0 a }
-    requires certificate_holds { Holds certificate.old 0 b }
-    requires sheet_room { length sheet.old ≡ base_bounds.sheet + 1 }
-    requires certificate_room { length certificate.old ≡ base_bounds.certificate + 1 }
-{
-    let Loaded::Bytes(n) = a else {
-        return say_unreadable(rt);
-    };
-    let Loaded::Bytes(m) = b else {
-        return say_unreadable(rt);
-    };
-    let mut work = [0u16; 32768];
-    explain(rt, sheet, n, certificate, m, &mut work)
-}
-
+// Each room holds one byte past its file's bound.
 fn main(rt: HostRuntime) -> io::Result<()> {
     let mut sheet = [0u8; SHEET + 1];
     let mut certificate = [0u8; CERTIFICATE + 1];
     let a = loading::load(&rt, 1, &mut sheet);
     let b = loading::load(&rt, 2, &mut certificate);
-    answer(&rt, a, &mut sheet, b, &mut certificate)
+    let (Some(n), Some(m)) = (a, b) else {
+        return say_unreadable(&rt);
+    };
+    explain(&rt, &mut sheet, n, &mut certificate[..m])
 }

@@ -1,205 +1,121 @@
 // The first broken scan of a confirmed trace: the inputs that were on in it, and the coils that are on after it.
-ghost use Rattle.std.specs.Prelude.{◌+◌, ◌≤◌, ◌<◌, length, IfOk};
+ghost use Rattle.std.specs.Prelude.{◌≤◌, length, IfSome};
 
-use super::{say, spots};
-use records::Found;
-use rules::Answer;
+use super::walk;
+use records::Kind;
+use rules::Fault;
 use std::io;
 use std::io::Print;
 
-// The input that a record turns on; 1 where it is one.
-fn say_input(rt: &impl Print, c: &[u8], at: usize, kind: u8) -> io::Result<usize>
-    ensures { IfOk result (λ n. n ≤ 1) }
-{
-    if kind != 0x61 {
-        return Ok(0);
-    }
-    say::words(rt, b" ")?;
-    say::number(rt, records::number_at(c, at, 1) as usize)?;
-    Ok(1)
+// The kinds of the records that a question is put together of.
+const COIL: u8 = 0x11;
+
+const CONDITION: u8 = 0x21;
+
+const END: u8 = 0x2F;
+
+// The length of a question: a contact on a coil as the condition, and the sheet's end.
+const QUESTION: usize = 5;
+
+// The end of a list's line, whether none was on it.
+fn end_list(rt: &impl Print, none: bool) -> io::Result<()> {
+    let end = if none { " none" } else { "" };
+    println!(rt; "{end}")
 }
 
-// The inputs that are on from a place up to the next SCAN, and how many.
-fn say_inputs(rt: &impl Print, c: &[u8], from: usize) -> io::Result<usize>
-    requires { from ≤ length c.now }
-{
-    let mut at = from;
-    let mut n: usize = 0;
-    loop {
-        match records::record_at(c, at) {
-            Found::Nothing => {
-                return Ok(n);
+// The inputs that are on from a place of a trace up to the next SCAN.
+fn say_inputs(rt: &impl Print, trace: &[u8], from: usize) -> io::Result<()> {
+    let mut none = true;
+    for (at, record) in walk::from(trace, from) {
+        match record.kind {
+            Kind::Scan => break,
+            Kind::InputOn => {
+                print!(rt; " {}", records::number_at(trace, at, 1))?;
+                none = false;
             }
-            Found::NoKind => {
-                return Ok(n);
-            }
-            Found::Cut { kind: _ } => {
-                return Ok(n);
-            }
-            Found::Whole { kind, next } => {
-                if kind == 0x62 {
-                    return Ok(n);
-                }
-                n += say_input(rt, c, at, kind)?;
-                at = next;
-            }
+            _ => {}
         }
     }
+    end_list(rt, none)
 }
 
-// Is coil c on after the trace's last scan? The checker is asked, over the same rungs with a contact on that coil as the
-// condition: it answers 25, the condition held, exactly where the coil is on.
-fn is_on(probe: &mut [u8], from: usize, c: u16, trace: &[u8], work: &mut [u16]) -> bool
-    requires { from + 5 ≤ length probe.old }
+// Is a coil on after the trace's last scan? The checker is asked, over the same rungs with a contact on that coil as the
+// condition: it answers that the condition held exactly where the coil is on.
+fn is_on(probe: &mut [u8], coil: u16, trace: &[u8], work: &mut [u16]) -> bool
+    requires { 5 ≤ length probe.old }
 {
-    let condition = [0x11, (c % 256) as u8, (c / 256) as u8, 0x21, 0x2F];
-    let end = writing::put_text(probe, from, &condition);
-    let answer = checker::check(&probe[..end], trace, work);
-    match answer {
-        Answer::Accepted => false,
-        Answer::Confirmed { scan: _ } => false,
-        Answer::Refused { no, place: _ } => no == 25,
-    }
+    let [low, high] = coil.to_le_bytes();
+    let at = probe.len() - QUESTION;
+    probe[at..].copy_from_slice(&[COIL, low, high, CONDITION, END]);
+    let answer = checker::check(probe, trace, work);
+    matches!(answer, Err(refusal) if refusal.fault == Fault::ConditionHeld)
 }
 
-// The coil's number, where it is on; 1 where it is.
-fn say_coil(
-    rt: &impl Print,
-    probe: &mut [u8],
-    from: usize,
-    c: u16,
-    trace: &[u8],
-    work: &mut [u16],
-) -> io::Result<usize>
-    requires { from + 5 ≤ length probe.old }
-    ensures { IfOk result (λ n. n ≤ 1) }
+// The coils that are on after a trace's last scan.
+fn say_coils(rt: &impl Print, probe: &mut [u8], trace: &[u8], work: &mut [u16]) -> io::Result<()>
+    requires { 5 ≤ length probe.old }
 {
-    if is_on(probe, from, c, trace, work) {
-        say::words(rt, b" ")?;
-        say::number(rt, c as usize)?;
-        return Ok(1);
+    let mut none = true;
+    for coil in 0..records::number_at(probe, 0, 3) {
+        if is_on(probe, coil, trace, work) {
+            print!(rt; " {coil}")?;
+            none = false;
+        }
     }
-    Ok(0)
+    end_list(rt, none)
 }
 
-// The coils that are on, and how many.
-fn say_coils(
-    rt: &impl Print,
-    coils: u16,
-    probe: &mut [u8],
-    from: usize,
-    trace: &[u8],
-    work: &mut [u16],
-) -> io::Result<usize>
-    requires { from + 5 ≤ length probe.old }
+// A sheet up to its condition: HEAD, the STARTs and the rungs.
+fn rungs(sheet: &[u8]) -> Option<&[u8]>
+    ensures { IfSome result (λ r. length r.now ≤ length sheet.now) }
 {
-    let mut c: u16 = 0;
-    let mut n: usize = 0;
-    while c < coils {
-        n += say_coil(rt, probe, from, c, trace, work)?;
-        c += 1;
-    }
-    Ok(n)
+    let (_, last) = walk::from(sheet, 0)
+        .take_while(|(_, record)| record.kind != Kind::Condition)
+        .filter(|(_, record)| matches!(record.kind, Kind::Head | Kind::Start | Kind::Rung))
+        .last()?;
+    sheet.get(..last.next)
 }
 
-// Where the condition's formula begins: past the last rung, or past the STARTs where there is none.
-fn condition_at(s: &[u8]) -> usize
-    ensures { result ≤ length s.now }
+// The rungs with room for a question.
+fn probe(sheet: &mut [u8]) -> Option<&mut [u8]>
+    ensures { IfSome result (λ r. 5 ≤ length r.now) }
 {
-    let rungs = records::number_at(s, 0, 5) as usize;
-    if 0 < rungs {
-        return spots::past(s, rungs, 0x20);
-    }
-    let starts = spots::count(s, s.len(), 0x02, spots::NONE);
-    if 0 < starts {
-        return spots::past(s, starts, 0x02);
-    }
-    spots::past(s, 1, 0x01)
+    let length = rungs(sheet)?.len();
+    sheet.get_mut(..length + QUESTION)
 }
 
-// The coils that are on at the end of a trace's first `upto` bytes, and how many. The condition, at a place of the sheet, and what
-// follows those bytes are overwritten.
-fn ask(
-    rt: &impl Print,
-    sheet: &mut [u8],
-    at: usize,
-    c: &mut [u8],
-    upto: usize,
-    work: &mut [u16],
-) -> io::Result<usize> {
-    if sheet.len() <= at {
-        return Ok(0);
-    }
-    if sheet.len() - at < 5 {
-        return Ok(0);
-    }
-    if c.len() <= upto {
-        return Ok(0);
-    }
-    let coils = records::number_at(sheet, 0, 3);
-    let end = writing::put_byte(c, upto, 0x2F);
-    say_coils(rt, coils, sheet, at, &c[..end], work)
+// The place past a number of scans, where the next one's records begin.
+fn past_scans(trace: &[u8], scans: usize) -> Option<usize> {
+    let (_, record) = walk::from(trace, 0)
+        .filter(|(_, record)| matches!(record.kind, Kind::Trace | Kind::Scan))
+        .nth(scans)?;
+    Some(record.next)
 }
 
-// The coils that are on after a scan, and how many.
-fn say_after(
-    rt: &impl Print,
-    sheet: &mut [u8],
-    n: usize,
-    c: &mut [u8],
-    m: usize,
-    scan: usize,
-    work: &mut [u16],
-) -> io::Result<usize>
-    requires n_in_bounds { n ≤ length sheet.old }
-    requires m_in_bounds { m ≤ length c.old }
-{
-    let at = condition_at(&sheet[..n]);
-    let upto = spots::past(&c[..m], scan, 0x62);
-    ask(rt, sheet, at, c, upto, work)
+// A trace up to the end of a scan, and END.
+fn cut_after(trace: &mut [u8], scan: usize) -> Option<&[u8]> {
+    let place = past_scans(trace, scan)?;
+    *trace.get_mut(place)? = END;
+    trace.get(..=place)
 }
 
-fn none_of(rt: &impl Print, n: usize) -> io::Result<()> {
-    if n == 0 {
-        say::words(rt, b" none")?;
-    }
-    say::words(rt, b"\n")
-}
-
-// The place where a scan's records begin.
-fn scan_at(c: &[u8], scan: usize) -> usize
-    ensures { result ≤ length c.now }
-{
-    if scan < 2 {
-        return spots::past(c, 1, 0x60);
-    }
-    spots::past(c, scan - 1, 0x62)
-}
-
-// The inputs that are on in a scan, and how many.
-fn say_scan(rt: &impl Print, c: &[u8], scan: usize) -> io::Result<usize> {
-    let from = scan_at(c, scan);
-    say_inputs(rt, c, from)
-}
-
-// The first broken scan of a confirmed trace, which stands in the first m bytes of `c`, of the sheet in the first n of `sheet`.
+// The first broken scan of a confirmed trace. The sheet's condition and what follows the scan are overwritten.
 pub fn confirmed(
     rt: &impl Print,
     sheet: &mut [u8],
-    n: usize,
-    c: &mut [u8],
-    m: usize,
+    trace: &mut [u8],
     scan: usize,
     work: &mut [u16],
-) -> io::Result<()>
-    requires n_in_bounds { n ≤ length sheet.old }
-    requires m_in_bounds { m ≤ length c.old }
-{
-    say::words(
-        rt,
-        b"The trace breaks the condition, and this is the first scan after which it is false.\nInputs on in this scan:",
+) -> io::Result<()> {
+    println!(rt;
+        "The trace breaks the condition, and this is the first scan after which it is false."
     )?;
-    none_of(rt, say_scan(rt, &c[..m], scan)?)?;
-    say::words(rt, b"Coils on after it:")?;
-    none_of(rt, say_after(rt, sheet, n, c, m, scan, work)?)
+    print!(rt; "Inputs on in this scan:")?;
+    let from = past_scans(trace, scan.saturating_sub(1)).unwrap_or(0);
+    say_inputs(rt, trace, from)?;
+    print!(rt; "Coils on after it:")?;
+    let (Some(probe), Some(trace)) = (probe(sheet), cut_after(trace, scan)) else {
+        return end_list(rt, true);
+    };
+    say_coils(rt, probe, trace, work)
 }
