@@ -7,13 +7,6 @@ use rules::Fault;
 use std::io;
 use std::io::Print;
 
-// The kinds of the records that a question is put together of.
-const COIL: u8 = 0x11;
-
-const CONDITION: u8 = 0x21;
-
-const END: u8 = 0x2F;
-
 // The length of a question: a contact on a coil as the condition, and the sheet's end.
 const QUESTION: usize = 5;
 
@@ -46,7 +39,14 @@ fn is_on(probe: &mut [u8], coil: u16, trace: &[u8], work: &mut [u16]) -> bool
 {
     let [low, high] = coil.to_le_bytes();
     let at = probe.len() - QUESTION;
-    probe[at..].copy_from_slice(&[COIL, low, high, CONDITION, END]);
+    let question = [
+        u8::from(Kind::Coil),
+        low,
+        high,
+        u8::from(Kind::Condition),
+        u8::from(Kind::End),
+    ];
+    probe[at..].copy_from_slice(&question);
     let answer = checker::check(probe, trace, work);
     matches!(answer, Err(refusal) if refusal.fault == Fault::ConditionHeld)
 }
@@ -92,10 +92,10 @@ fn past_scans(trace: &[u8], scans: usize) -> Option<usize> {
     Some(record.next)
 }
 
-// A trace up to the end of a scan, and END.
+// A trace up to the end of a scan, and u8::from(Kind::End).
 fn cut_after(trace: &mut [u8], scan: usize) -> Option<&[u8]> {
     let place = past_scans(trace, scan)?;
-    *trace.get_mut(place)? = END;
+    *trace.get_mut(place)? = u8::from(Kind::End);
     trace.get(..=place)
 }
 

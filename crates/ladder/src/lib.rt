@@ -94,6 +94,7 @@ pub fn evaluate(
         depth: 0,
     };
     let mut at = from;
+    // Where the formula ends is known only at the record that closes it.
     loop {
         let part = formulas::part_at(s, at);
         if let Part::Closing = part {

@@ -31,6 +31,7 @@ fn fill<F: Read>(file: &mut F, buf: &mut [u8]) -> Option<usize>
     ensures { Holds buf.new 0 result }
 {
     let mut done: usize = 0;
+    // How far each read comes is known only after it.
     while done < buf.len() {
         let n = read_some(file, buf, done)?;
         if n == 0 {

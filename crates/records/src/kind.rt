@@ -1,5 +1,6 @@
 // The kinds of records, and the byte of each.
-ghost use Rattle.records.specs.Kinds.{Decodes};
+ghost use Rattle.std.specs.Prelude.{◌≡◌};
+ghost use Rattle.records.specs.Kinds.{byte_of, Decodes};
 
 #[derive(Clone, Copy, Debug, PartialEq, Eq)]
 pub enum Kind {
@@ -53,6 +54,33 @@ impl TryFrom<u8> for Kind {
             0x61 => Ok(Kind::InputOn),
             0x62 => Ok(Kind::Scan),
             _ => Err(UnknownKind),
+        }
+    }
+}
+
+impl From<Kind> for u8 {
+    ghost from_gives = { λ k b. b ≡ byte_of k };
+
+    fn from(kind: Kind) -> u8 {
+        match kind {
+            Kind::Head => 0x01,
+            Kind::Start => 0x02,
+            Kind::Input => 0x10,
+            Kind::Coil => 0x11,
+            Kind::Constant => 0x12,
+            Kind::Not => 0x13,
+            Kind::And => 0x14,
+            Kind::Or => 0x15,
+            Kind::Rung => 0x20,
+            Kind::Condition => 0x21,
+            Kind::End => 0x2F,
+            Kind::Step => 0x40,
+            Kind::Qed => 0x41,
+            Kind::Safe => 0x50,
+            Kind::Invariant => 0x51,
+            Kind::Trace => 0x60,
+            Kind::InputOn => 0x61,
+            Kind::Scan => 0x62,
         }
     }
 }

@@ -143,6 +143,7 @@ pub fn steps_until_qed(
     let mut m: usize = 0;
     let mut emptied = false;
     let mut p = at;
+    // How many STEPs there are is known only at the QED.
     loop {
         let marked = match mark_at(c, p) {
             Ok(marked) => marked,

@@ -114,6 +114,7 @@ fn read_records(l: Limits, s: &[u8], marks: &mut [u16]) -> Result<Outline, Refus
         rungs_at: 0,
         condition_at: 0,
     };
+    // Which kinds may follow is known only from the record before, so no iterator over the records serves.
     loop {
         match draft::one_record(l, s, marks, d) {
             Ok(Some(e)) => d = e,
@@ -156,6 +157,7 @@ pub fn read_invariant(l: Limits, coils: usize, c: &[u8]) -> Result<Invariant, Re
         pile: Pile { depth: 0, count: 0 },
         at: 1,
     };
+    // As in a sheet, the record before says whether another may follow.
     loop {
         match certificate::part_record(l, coils, c, p) {
             Ok(Some(q)) => p = q,

@@ -176,6 +176,7 @@ pub fn replay(
         first: None,
         broken: false,
     };
+    // Which kinds may follow is known only from the record before, so no iterator over the records serves.
     loop {
         match step(l, t, c, &mut places, p) {
             Ok(Some(q)) => p = q,
