@@ -1,3 +1,4 @@
+use Rattle.std.proofs.Common.{rules}
 use Rattle.rules.specs.Verdict.{which_of}
 use Rattle.clauses.specs.Sets.{ClauseSetWritten}
 use Rattle.clauses.proofs.ScratchLaws.{numbered_written}
@@ -10,8 +11,8 @@ returns c =
     let m = c.match-set in
     let e : ClauseSetWritten (which_of a.set) a.s.now a.c.now a.h c.number_coils.new.map c.number_coils-2.new.map a.scratch.stack.now a.out.now m.out m.result =
     elim m.branch [
-      | in-Start w ↦ rw (w.in-Start.is, w.out-is, w.result-is) w.start_set.ensures
-      | in-Keep w ↦ rw (w.in-Keep.is, w.out-is, w.result-is) w.keep_set.ensures
-      | in-Safe w ↦ rw (w.in-Safe.is, w.out-is, w.result-is) w.safe_set.ensures
+      | in-Start w ↦ rw (w.in-Start.is, w.out-is, w.result-is) (search rules)
+      | in-Keep w ↦ rw (w.in-Keep.is, w.out-is, w.result-is) (search rules)
+      | in-Safe w ↦ rw (w.in-Safe.is, w.out-is, w.result-is) (search rules)
     ] in
     numbered_written _ _ _ _ _ _ _ _ c.number_coils.auto.map c.number_coils-2.auto.map _ _ _ _ e
