@@ -31,7 +31,7 @@ fn refute(
     ensures { Refutes l (which_of set) s.now c.now h at work.old result }
 {
     let from = clause_room(l);
-    let base = clauses::sets::clause_set(set, s, c, h, &mut work[..from]);
+    let base = clauses::sets::write_clauses(set, s, c, h, &mut work[..from]);
     refutation::steps_until_qed(l, c, at, work, Clauses { base, from })
 }
 

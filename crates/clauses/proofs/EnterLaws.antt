@@ -4,7 +4,7 @@ use Prim.Native.Nat.{ℕ, ◌+◌, ◌-◌, ◌≤◌, ◌<◌}
 use mathlib.Core.Path.{◌≡◌, refl}
 use mathlib.Core.List.{List}
 use native.Mathlib.Omega.{arith}
-use lib.ListN.{get_or, set, length-set}
+use lib.ListN.{length, get_or, set, length-set}
 use Rattle.std.specs.Prelude.{Some, None}
 use Rattle.formulas.specs.declared.Part.{Part}
 use Rattle.formulas.specs.declared.Part.TheVariants.{Input, Coil, Constant, Not, And, Or, Closing}
@@ -67,9 +67,9 @@ told Or map base g stack depth gate e =
 told Closing map base g stack depth gate e = cc
 
 module _ (p : Part) (map : List ℕ) (base g : ℕ) (stack : List ℕ) (depth n : ℕ) (q : Enterable p map base g stack depth n) where
-  pub reached : Reached p map base depth
+  pub reached : Reached p map base stack depth
   unfolding takes
-  reached = record { reaches = q.reaches; enough = enough p q; within = omega (arith, q.within, q.tall) }
+  reached = record { reaches = q.reaches; enough = enough p q; within = q.within }
     where
       enough : (x : Part) → Enterable x map base g stack depth n → takes x ≤ depth
       enough (Input j) y = omega arith
@@ -112,8 +112,8 @@ module _ (p : Part) (map : List ℕ) (base g : ℕ) (stack : List ℕ) (depth n 
       pub taken : k ≤ depth
       taken = omega (arith, h, t.takes_is, ready.enough)
 
-      pub taken_room : depth - k < 32
-      taken_room = omega (arith, h, t.takes_is, ready.room, q.tall)
+      pub taken_room : depth - k < length stack
+      taken_room = omega (arith, h, t.takes_is, ready.room)
 
       pub entered : (out out' : List ℕ) (m : ℕ) → Emitted out n (gate_clauses g gate) out' m
           → Entered p map base g stack depth out n (set stack (depth - k) g) (depth - k + 1) out' (Some m)

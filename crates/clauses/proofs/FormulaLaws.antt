@@ -26,13 +26,13 @@ use Rattle.clauses.proofs.FlatLaws.{flat, flat_whole, takes_for, postfix_size, f
 use Rattle.clauses.proofs.UniqueLaws.{not_closing, first_part, same_formula}
 
 -- es are left
-pub record Walking (s : List ℕ) (at : ℕ) (map : List ℕ) (base g : ℕ) (out₀ : List ℕ) (n : ℕ) (stack out : List ℕ) (place next count depth : ℕ) : Type 0 where
+pub record Walking (s : List ℕ) (at : ℕ) (map : List ℕ) (base g : ℕ) (stack₀ out₀ : List ℕ) (n : ℕ) (stack out : List ℕ) (place next count depth : ℕ) : Type 0 where
   pub bounds : Bounds
   pub formula : Formula
   pub rest : List ℕ
-  pub formed : Formed s at map base g n bounds formula rest
+  pub formed : Formed s at map base g stack₀ n bounds formula rest
   pub es : List Entry
-  pub long : length stack ≡ 32
+  pub long : length stack ≡ length stack₀
   pub long_out : length out ≡ length out₀
   pub low : depth ≤ bounds.depth
   pub small : (j : ℕ) → j < depth → get_or stack j 0 < 32768
@@ -43,10 +43,10 @@ pub record Walking (s : List ℕ) (at : ℕ) (map : List ℕ) (base g : ℕ) (ou
   pub count_is : count + length (flat (vars_of map base) next es (stk stack depth)) ≡ n + length (defining (vars_of map base) g formula)
   pub out_is : emits out count (flat (vars_of map base) next es (stk stack depth)) ≡ emits out₀ n (defining (vars_of map base) g formula)
 
-pub begins : (s : List ℕ) (at : ℕ) (map : List ℕ) (base g : ℕ) (stack out : List ℕ) (n : ℕ) → length stack ≡ 32 → FormulaAt s at map base g n
-    → Walking s at map base g out n stack out at g n 0
+pub begins : (s : List ℕ) (at : ℕ) (map : List ℕ) (base g : ℕ) (stack out : List ℕ) (n : ℕ) → FormulaAt s at map base g stack n
+    → Walking s at map base g stack out n stack out at g n 0
 unfolding stk write_formula
-begins s at map base g stack out n k q =
+begins s at map base g stack out n q =
     let f : Formula = q.formula in
     let a : flat (vars_of map base) g (postfix f) [] ≡ defining (vars_of map base) g f = flat_whole (vars_of map base) g f in
     record {
@@ -55,7 +55,7 @@ begins s at map base g stack out n k q =
       rest = q.rest;
       formed = q.formed;
       es = postfix f;
-      long = k;
+      long = refl;
       long_out = refl;
       low = omega arith;
       small = λ j h. absurd (omega arith);
@@ -86,8 +86,8 @@ some_bytes NOT = omega arith
 some_bytes AND = omega arith
 some_bytes OR = omega arith
 
-module _ (s : List ℕ) (at : ℕ) (map : List ℕ) (base g : ℕ) (out₀ : List ℕ) (n : ℕ) (stack out : List ℕ) (place next count depth : ℕ)
-    (w : Walking s at map base g out₀ n stack out place next count depth) (p : Part) (found : p ≡ part_of (drop place s)) where
+module _ (s : List ℕ) (at : ℕ) (map : List ℕ) (base g : ℕ) (stack₀ out₀ : List ℕ) (n : ℕ) (stack out : List ℕ) (place next count depth : ℕ)
+    (w : Walking s at map base g stack₀ out₀ n stack out place next count depth) (p : Part) (found : p ≡ part_of (drop place s)) where
   -- the first record that is left is the one found
   is_first : (e : Entry) (es : List Entry) → w.es ≡ e ∷ es → p ≡ part_for e
   is_first e es h =
@@ -106,14 +106,14 @@ module _ (s : List ℕ) (at : ℕ) (map : List ℕ) (base g : ℕ) (out₀ : Lis
   unfolding Sound Reaches
   enterable = go w.es refl
     where
-      m : Mapped map base w.bounds
+      m : Mapped map base stack₀ w.bounds
       m = w.formed.mapped
 
       within : depth ≤ length stack
       within = omega (arith, w.low, m.deep, w.long)
 
       go : (xs : List Entry) → w.es ≡ xs → Enterable p map base next stack depth count
-      go [] h = record { ready = λ z. absurd (z (is_closing h)); reaches = rw (is_closing h) tt; within = within; tall = w.long; mapped = m.small }
+      go [] h = record { ready = λ z. absurd (z (is_closing h)); reaches = rw (is_closing h) tt; within = within; mapped = m.small }
       go (e ∷ es) h =
           let x : p ≡ part_for e = is_first e es h in
           let y : Sound w.bounds depth (e ∷ es) = rw h at w.sound in
@@ -129,7 +129,6 @@ module _ (s : List ℕ) (at : ℕ) (map : List ℕ) (base g : ℕ) (out₀ : Lis
               small = w.small;
             });
             within = within;
-            tall = w.long;
             reaches = rw x (reach w.bounds e map base y.0.named m.inputs_fit m.coils_fit);
             mapped = m.small;
           }
@@ -197,7 +196,7 @@ module _ (s : List ℕ) (at : ℕ) (map : List ℕ) (base g : ℕ) (out₀ : Lis
       next_fits = record { fits = omega (arith, counted, w.formed.numbered) }
 
       pub goes_on : length out' ≡ length out
-          → Walking s at map base g out₀ n stack' out' (place + k) (next + 1) x depth'
+          → Walking s at map base g stack₀ out₀ n stack' out' (place + k) (next + 1) x depth'
       unfolding Sound flat
       goes_on lo =
           let vs = vars_of map base in
@@ -230,14 +229,14 @@ module _ (s : List ℕ) (at : ℕ) (map : List ℕ) (base g : ℕ) (out₀ : Lis
           }
 
     -- the formula is done
-    pub ends : r ≡ None → FormulaWritten s at map base g out₀ n out' (record { at = place; g = next; n = count })
+    pub ends : r ≡ None → FormulaWritten s at map base g stack₀ out₀ n out' (record { at = place; g = next; n = count })
     unfolding flat emits
     ends h = record { of = λ b f rest q. done b f rest q }
       where
         x : w.es ≡ []
         x = none_left h
 
-        done : (b : Bounds) (f : Formula) (rest : List ℕ) → Formed s at map base g n b f rest
+        done : (b : Bounds) (f : Formula) (rest : List ℕ) → Formed s at map base g stack₀ n b f rest
             → Written at g n (length (write_formula f)) (size f) (defining (vars_of map base) g f) out₀ out' (record { at = place; g = next; n = count })
         done b f rest q =
             let z : w.formula ≡ f = (same_formula w.formula f w.rest rest w.formed.closes q.closes (sym w.formed.bytes ∙ q.bytes)).0 in

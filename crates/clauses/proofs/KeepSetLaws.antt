@@ -1,7 +1,7 @@
 -- Set 2, by the calls of the code.
 -- Assumes nothing.
 use Prim.Native.Nat.{ℕ, ◌+◌, ◌/◌, ◌≤◌, ◌<◌}
-use mathlib.Core.Path.{◌≡◌, ap₂, subst}
+use mathlib.Core.Path.{◌≡◌, ap₂, subst, ◌∙◌}
 use mathlib.Core.Bool.{true, false}
 use mathlib.Core.List.{List, ◌++◌, append_assoc}
 use native.Mathlib.Omega.{arith}
@@ -20,40 +20,40 @@ use Rattle.clauses.specs.Emits.{signed, Emitted}
 use Rattle.clauses.specs.Stack.{vars_of}
 use Rattle.clauses.specs.Formed.{Formed, FormulaAt, Written, TopWritten, FormulaPassed}
 use Rattle.clauses.specs.Runged.{RungsWritten}
-use Rattle.clauses.specs.Sets.{SetThere, Scratch, SetWritten}
+use Rattle.clauses.specs.Sets.{Held, ClauseSetAt, Fresh, ClauseSetWritten}
 use Rattle.clauses.proofs.FlatLaws.{few_clauses}
 use Rattle.clauses.proofs.SheetLaws.{after_condition}
-use Rattle.clauses.proofs.SetPartLaws.{Held, held, small_numbered, agree_numbered, ladder_written, condition_first, agree_ladder, after_small, condition_formed, invariant_formed, invariant_is, before_room}
+use Rattle.clauses.proofs.SetPartLaws.{small_numbered, agree_numbered, ladder_written, condition_first, agree_ladder, after_small, condition_formed, invariant_formed, invariant_is, before_room}
 use Rattle.clauses.proofs.SetLaws.{few_rungs, next, emitted, condition_at_lem}
 
-module _ (s c : List ℕ) (h : Layout) (before after : List ℕ) (p : SetThere s c h) (lent : Scratch before after)
+module _ (s c : List ℕ) (h : Layout) (before after stack : List ℕ) (p : ClauseSetAt s c h before after stack) (lent : Fresh before after)
     (out after₁ out₁ : List ℕ) (long : length out < 18446744073709551616) (r : Wrote)
-    (x : RungsWritten s h.at h.rungs after (h.coils + 1) (h.coils + 1 + h.inputs) out 0 after₁ out₁ r)
-    (la : length after₁ ≡ length after) (lo : length out₁ ≡ length out) where
-  pub keep_passes : FormulaAt s r.at after₁ (h.coils + 1) r.g (length out₁ / 3)
-  keep_passes = condition_at_lem s c h before after p lent 0 (omega arith) out after₁ out₁ r x la (length out₁ / 3) (omega arith)
+    (x : RungsWritten s h.at h.rungs after (h.coils + 1) (h.coils + 1 + h.inputs) stack out 0 after₁ out₁ r)
+    (stack₁ : List ℕ) (ls : length stack₁ ≡ length stack) (la : length after₁ ≡ length after) (lo : length out₁ ≡ length out) where
+  pub keep_passes : FormulaAt s r.at after₁ (h.coils + 1) r.g stack₁ (length out₁ / 3)
+  keep_passes = condition_at_lem s c h before after stack p lent 0 (omega arith) out after₁ out₁ r x stack₁ ls la (length out₁ / 3) (omega arith)
 
-  module _ (out₂ : List ℕ) (g : ℕ) (y : FormulaPassed s r.at after₁ (h.coils + 1) r.g out₁ out₂ g) where
+  module _ (out₂ : List ℕ) (g : ℕ) (y : FormulaPassed s r.at after₁ (h.coils + 1) r.g stack₁ out₁ out₂ g) (stack₂ : List ℕ) (lt : length stack₂ ≡ length stack₁) where
     -- of any sheet that stands there
-    module _ (l : Limits) (t : Sheet) (inv : Formula) (rest : List ℕ) (v : Held l s c h before after t inv rest) where
+    module _ (l : Limits) (t : Sheet) (inv : Formula) (rest : List ℕ) (v : Held l s c h before after stack t inv rest) where
       written : Written h.at (h.coils + 1 + h.inputs) 0 (length (each write_rung t.rungs)) (sizes t.rungs) (ladder t) out out₁ r
-      written = ladder_written l s c h before after t inv rest v lent.after_numbered 0 (omega arith) out after₁ out₁ r x
+      written = ladder_written l s c h before after stack t inv rest v lent.after_numbered 0 (omega arith) out after₁ out₁ r x
 
       g_is : g ≡ before_at t
       g_is =
           let a = y.of (sheet_bounds l t) t.condition after_condition
-          (condition_formed l s c h before after t inv rest v lent.after_numbered 0 (omega arith) out after₁ out₁ r x la (length out₁ / 3) (omega arith)) in
-          omega (arith, condition_first l s c h before after t inv rest v lent.after_numbered 0 (omega arith) out after₁ out₁ r x)
+          (condition_formed l s c h before after stack t inv rest v lent.after_numbered 0 (omega arith) out after₁ out₁ r x stack₁ ls la (length out₁ / 3) (omega arith)) in
+          omega (arith, condition_first l s c h before after stack t inv rest v lent.after_numbered 0 (omega arith) out after₁ out₁ r x)
 
       few : r.n ≤ 98304
       few = omega (arith, written.n_is, few_rungs (before_vars t) (rungs_at t) t.rungs, v.within.records_fit, v.narrow)
 
       room : before_at t + size inv + size inv ≤ 32768
-      room = before_room l s c h before after t inv rest v
+      room = before_room l s c h before after stack t inv rest v
 
-      formed₁ : Formed c 1 before (h.coils + 1) g r.n (invariant_bounds l t) inv rest
+      formed₁ : Formed c 1 before (h.coils + 1) g stack₂ r.n (invariant_bounds l t) inv rest
       formed₁ =
-          invariant_formed l s c h before after t inv rest v before (small_numbered before lent.before_numbered) v.before_wide g r.n
+          invariant_formed l s c h before after stack t inv rest v before stack₂ (small_numbered before lent.before_numbered) v.before_wide (lt ∙ ls) g r.n
           (omega (arith, g_is, room))
           (omega (arith, few))
 
@@ -64,33 +64,34 @@ module _ (s c : List ℕ) (h : Layout) (before after : List ℕ) (p : SetThere s
       unfolding cs
       same_before =
           ap₂ (λ (x : List Clause) (y : ℕ). x ++ signed true (top y inv))
-          (invariant_is l s c h before after t inv rest v before (before_vars t) (agree_numbered l s c h before after t inv rest v before lent.before_numbered v.before_wide) g (before_at t) g_is)
+          (invariant_is l s c h before after stack t inv rest v before (before_vars t) (agree_numbered l s c h before after stack t inv rest v before lent.before_numbered v.before_wide) g (before_at t) g_is)
           g_is
 
-    pub keep_before : FormulaAt c 1 before (h.coils + 1) g r.n
+    pub keep_before : FormulaAt c 1 before (h.coils + 1) g stack₂ r.n
     keep_before = record {
       bounds = invariant_bounds p.limits p.sheet;
       formula = p.invariant;
       rest = p.rest;
-      formed = formed₁ p.limits p.sheet p.invariant p.rest (held lent p.given);
+      formed = formed₁ p.limits p.sheet p.invariant p.rest p.given;
     }
 
-    module _ (out₃ : List ℕ) (w : Wrote) (i : TopWritten true c 1 before (h.coils + 1) g out₂ r.n out₃ w) where
-      module _ (l : Limits) (t : Sheet) (inv : Formula) (rest : List ℕ) (v : Held l s c h before after t inv rest) where
+    module _ (out₃ : List ℕ) (w : Wrote) (i : TopWritten true c 1 before (h.coils + 1) g stack₂ out₂ r.n out₃ w) (stack₃ : List ℕ) (lu : length stack₃ ≡ length stack₂) where
+      module _ (l : Limits) (t : Sheet) (inv : Formula) (rest : List ℕ) (v : Held l s c h before after stack t inv rest) where
         written₁ : Written 1 g r.n (length (write_formula inv)) (size inv) (cs l t inv rest v) out₂ out₃ w
         written₁ = rw (same_before l t inv rest v) at (i.of (invariant_bounds l t) inv rest (formed₁ l t inv rest v))
 
         w_is : w.g ≡ after_at t inv
         w_is = omega (arith, written₁.g_is, g_is l t inv rest v)
 
-        formed₂ : Formed c 1 after₁ (h.coils + 1) w.g w.n (invariant_bounds l t) inv rest
+        formed₂ : Formed c 1 after₁ (h.coils + 1) w.g stack₃ w.n (invariant_bounds l t) inv rest
         unfolding cs
         formed₂ =
             let k : l.coils ≤ length after₁ = omega (arith, v.after_wide) in
             let d = simp length-append at written₁.n_is in
-            invariant_formed l s c h before after t inv rest v after₁
-            (after_small l s c h before after t inv rest v lent.after_numbered 0 (omega arith) out after₁ out₁ r x)
+            invariant_formed l s c h before after stack t inv rest v after₁ stack₃
+            (after_small l s c h before after stack t inv rest v lent.after_numbered 0 (omega arith) out after₁ out₁ r x)
             k
+            (lu ∙ lt ∙ ls)
             w.g
             w.n
             (omega (arith, w_is, room l t inv rest v))
@@ -103,23 +104,23 @@ module _ (s c : List ℕ) (h : Layout) (before after : List ℕ) (p : SetThere s
         unfolding ds
         same_after =
             ap₂ (λ (x : List Clause) (y : ℕ). x ++ signed false (top y inv))
-            (invariant_is l s c h before after t inv rest v after₁ (after_vars t) (agree_ladder l s c h before after t inv rest v lent.after_numbered 0 (omega arith) out after₁ out₁ r x) w.g (after_at t inv) w_is)
+            (invariant_is l s c h before after stack t inv rest v after₁ (after_vars t) (agree_ladder l s c h before after stack t inv rest v lent.after_numbered 0 (omega arith) out after₁ out₁ r x) w.g (after_at t inv) w_is)
             w_is
 
-      pub keep_after : FormulaAt c 1 after₁ (h.coils + 1) w.g w.n
+      pub keep_after : FormulaAt c 1 after₁ (h.coils + 1) w.g stack₃ w.n
       keep_after = record {
         bounds = invariant_bounds p.limits p.sheet;
         formula = p.invariant;
         rest = p.rest;
-        formed = formed₂ p.limits p.sheet p.invariant p.rest (held lent p.given);
+        formed = formed₂ p.limits p.sheet p.invariant p.rest p.given;
       }
 
-      pub keep_written : (out₄ : List ℕ) (u : Wrote) → TopWritten false c 1 after₁ (h.coils + 1) w.g out₃ w.n out₄ u
-          → SetWritten keep s c h out out₄ u.n
+      pub keep_written : (out₄ : List ℕ) (u : Wrote) → TopWritten false c 1 after₁ (h.coils + 1) w.g stack₃ out₃ w.n out₄ u
+          → ClauseSetWritten keep s c h before after stack out out₄ u.n
       unfolding clause_set cs ds
-      keep_written out₄ u j = record { of = λ l t inv rest v. done l t inv rest (held lent v) }
+      keep_written out₄ u j = record { of = λ l t inv rest v. done l t inv rest v }
         where
-          done : (l : Limits) (t : Sheet) (inv : Formula) (rest : List ℕ) → Held l s c h before after t inv rest
+          done : (l : Limits) (t : Sheet) (inv : Formula) (rest : List ℕ) → Held l s c h before after stack t inv rest
               → Emitted out 0 (clause_set t inv keep) out₄ u.n
           done l t inv rest v =
               let d : Written 1 w.g w.n (length (write_formula inv)) (size inv) (ds l t inv rest v) out₃ out₄ u =

@@ -13,6 +13,7 @@ pub mod SetPartLaws
 pub mod SetLaws
 pub mod KeepSetLaws
 pub mod SafeSetLaws
+pub mod ScratchLaws
 pub mod PlacesLaws
 pub mod TranslateLaws
 pub mod FewLaws

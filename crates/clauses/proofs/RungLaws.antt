@@ -79,13 +79,14 @@ some_size (both f g) = omega arith
 some_size (either f g) = omega arith
 
 -- rs are left
-pub record Running (s : List ℕ) (at rungs : ℕ) (map₀ : List ℕ) (base g : ℕ) (out₀ : List ℕ) (n : ℕ) (map out : List ℕ) (place next count i : ℕ) : Type 0 where
+pub record Running (s : List ℕ) (at rungs : ℕ) (map₀ : List ℕ) (base g : ℕ) (stack₀ out₀ : List ℕ) (n : ℕ) (map stack out : List ℕ) (place next count i : ℕ) : Type 0 where
   pub bounds : Bounds
   pub all : List Rung
   pub rest : List ℕ
-  pub runged : Runged s at rungs map₀ base g n bounds all rest
+  pub runged : Runged s at rungs map₀ base g stack₀ n bounds all rest
   pub rs : List Rung
   pub long_map : length map ≡ length map₀
+  pub long : length stack ≡ length stack₀
   pub long_out : length out ≡ length out₀
   pub left : length rs + i ≡ rungs
   pub bytes : drop place s ≡ each write_rung rs ++ rest
@@ -99,15 +100,16 @@ pub record Running (s : List ℕ) (at rungs : ℕ) (map₀ : List ℕ) (base g :
   pub out_is : emits out count (rung_clauses (vars_of map base) next rs) ≡ emits out₀ n (rung_clauses (vars_of map₀ base) g all)
   pub map_is : after_rungs (vars_of map base) next rs ≡ after_rungs (vars_of map₀ base) g all
 
-pub runs : (s : List ℕ) (at rungs : ℕ) (map : List ℕ) (base g : ℕ) (out : List ℕ) (n : ℕ) → RungsAt s at rungs map base g n
-    → Running s at rungs map base g out n map out at g n 0
-runs s at rungs map base g out n q = record {
+pub runs : (s : List ℕ) (at rungs : ℕ) (map : List ℕ) (base g : ℕ) (stack out : List ℕ) (n : ℕ) → RungsAt s at rungs map base g stack n
+    → Running s at rungs map base g stack out n map stack out at g n 0
+runs s at rungs map base g stack out n q = record {
   bounds = q.bounds;
   all = q.rungs_are;
   rest = q.rest;
   runged = q.runged;
   rs = q.rungs_are;
   long_map = refl;
+  long = refl;
   long_out = refl;
   left = omega (arith, q.runged.counted);
   bytes = q.runged.bytes;
@@ -122,8 +124,8 @@ runs s at rungs map base g out n q = record {
   map_is = refl;
 }
 
-module _ (s : List ℕ) (at rungs : ℕ) (map₀ : List ℕ) (base g : ℕ) (out₀ : List ℕ) (n : ℕ) (map out : List ℕ) (place next count i : ℕ)
-    (w : Running s at rungs map₀ base g out₀ n map out place next count i) where
+module _ (s : List ℕ) (at rungs : ℕ) (map₀ : List ℕ) (base g : ℕ) (stack₀ out₀ : List ℕ) (n : ℕ) (map stack out : List ℕ) (place next count i : ℕ)
+    (w : Running s at rungs map₀ base g stack₀ out₀ n map stack out place next count i) where
   vs : Vars
   vs = vars_of map base
 
@@ -133,7 +135,7 @@ module _ (s : List ℕ) (at rungs : ℕ) (map₀ : List ℕ) (base g : ℕ) (out
     tail : List ℕ
     tail = (Kind.RUNG ∷ two_bytes x.coil) ++ (each write_rung rs ++ w.rest)
 
-    formed : Formed s place map base next count w.bounds x.formula tail
+    formed : Formed s place map base next stack count w.bounds x.formula tail
     unfolding tail sizes
     formed =
         let m = w.runged.mapped in
@@ -145,7 +147,7 @@ module _ (s : List ℕ) (at rungs : ℕ) (map₀ : List ℕ) (base g : ℕ) (out
           bytes = a ∙ rung_bytes x rs w.rest;
           closes = refl;
           fits = f.0;
-          mapped = record { inputs_fit = m.inputs_fit; coils_fit = omega (arith, m.coils_fit, w.long_map); deep = m.deep; small = w.small };
+          mapped = record { inputs_fit = m.inputs_fit; coils_fit = omega (arith, m.coils_fit, w.long_map); deep = omega (arith, m.deep, w.long); small = w.small };
           numbered = omega (arith, w.runged.numbered);
           few = omega (arith, w.runged.few);
         }
@@ -171,10 +173,10 @@ module _ (s : List ℕ) (at rungs : ℕ) (map₀ : List ℕ) (base g : ℕ) (out
       unfolding tail
       end_in = let a = sym (length-drop r.at s) ∙ ap length there in omega arith
 
-      step_on : length out' ≡ length out
-          → Running s at rungs map₀ base g out₀ n (set map x.coil (r.g - 1)) out' (r.at + 3) r.g r.n (i + 1)
+      step_on : (stack' : List ℕ) → length stack' ≡ length stack → length out' ≡ length out
+          → Running s at rungs map₀ base g stack₀ out₀ n (set map x.coil (r.g - 1)) stack' out' (r.at + 3) r.g r.n (i + 1)
       unfolding sizes rung_clauses after_rungs tail write_rung vs
-      step_on lo =
+      step_on stack' ls lo =
           let t : ℕ = top next x.formula in
           let e : r.g - 1 ≡ t = ap (λ (z : ℕ). z - 1) d.g_is in
           let us : vars_of (set map x.coil (r.g - 1)) base ≡ closing vs next x = rw e (vars_set map base x.coil t coil_in) in
@@ -196,6 +198,7 @@ module _ (s : List ℕ) (at rungs : ℕ) (map₀ : List ℕ) (base g : ℕ) (out
             runged = w.runged;
             rs = rs;
             long_map = length-set map x.coil (r.g - 1) ∙ w.long_map;
+            long = ls ∙ w.long;
             long_out = lo ∙ w.long_out;
             left = omega arith;
             bytes = rw (← drop-drop 3 r.at s, there);
@@ -229,12 +232,12 @@ module _ (s : List ℕ) (at rungs : ℕ) (map₀ : List ℕ) (base g : ℕ) (out
       go [] e = let k : 0 + i ≡ rungs = rw e at w.left in absurd (omega arith)
       go (x ∷ xs) e = record { x = x; rs = xs; is = e }
 
-  pub rung_formula : i < rungs → FormulaAt s place map base next count
+  pub rung_formula : i < rungs → FormulaAt s place map base next stack count
   rung_formula h =
       let f = first h in
       record { bounds = w.bounds; formula = f.x.formula; rest = tail f.x f.rs f.is; formed = formed f.x f.rs f.is }
 
-  module _ (h : i < rungs) (out' : List ℕ) (r : Wrote) (d : FormulaWritten s place map base next out count out' r) where
+  module _ (h : i < rungs) (out' : List ℕ) (r : Wrote) (d : FormulaWritten s place map base next stack out count out' r) where
     f : First
     f = first h
 
@@ -253,18 +256,18 @@ module _ (s : List ℕ) (at rungs : ℕ) (map₀ : List ℕ) (base g : ℕ) (out
     pub coil_mapped : CoilAt s r.at map
     coil_mapped = record { within = rw same_coil (coil_in f.x f.rs f.is out' r wrote) }
 
-    pub runs_on : (map' : List ℕ) → map' ≡ set map (number_at s r.at 1) (r.g - 1) → length out' ≡ length out
-        → Running s at rungs map₀ base g out₀ n map' out' (r.at + 3) r.g r.n (i + 1)
-    runs_on map' e lo = rw (e, same_coil) (step_on f.x f.rs f.is out' r wrote lo)
+    pub runs_on : (map' stack' : List ℕ) → map' ≡ set map (number_at s r.at 1) (r.g - 1) → length stack' ≡ length stack → length out' ≡ length out
+        → Running s at rungs map₀ base g stack₀ out₀ n map' stack' out' (r.at + 3) r.g r.n (i + 1)
+    runs_on map' stack' e ls lo = rw (e, same_coil) (step_on f.x f.rs f.is out' r wrote stack' ls lo)
 
-  pub runs_out : rungs ≤ i → RungsWritten s at rungs map₀ base g out₀ n map out (record { at = place; g = next; n = count })
+  pub runs_out : rungs ≤ i → RungsWritten s at rungs map₀ base g stack₀ out₀ n map out (record { at = place; g = next; n = count })
   unfolding rung_clauses after_rungs sizes emits
   runs_out h = record { of = λ b rs rest q. done b rs rest q }
     where
       x : w.rs ≡ []
       x = rest_none h
 
-      done : (b : Bounds) (rs : List Rung) (rest : List ℕ) → Runged s at rungs map₀ base g n b rs rest
+      done : (b : Bounds) (rs : List Rung) (rest : List ℕ) → Runged s at rungs map₀ base g stack₀ n b rs rest
           → Closed at map₀ base g n rs out₀ map out (record { at = place; g = next; n = count })
       done b rs rest q =
           let z : w.all ≡ rs = (same_rungs w.all rs w.rest rest (w.runged.counted ∙ sym q.counted) (sym w.runged.bytes ∙ q.bytes)).0 in

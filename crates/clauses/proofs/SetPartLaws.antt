@@ -1,9 +1,9 @@
 -- The parts of the sets, from a good sheet and an invariant in bytes.
 -- Assumes nothing.
-use Prim.Native.Nat.{ℕ, ◌+◌, ◌*◌, ◌≤◌, ◌<◌}
+use Prim.Native.Nat.{ℕ, ◌+◌, ◌≤◌, ◌<◌}
 use mathlib.Core.Path.{◌≡◌, refl, sym, ap, ◌∙◌, subst}
 use mathlib.Core.Bool.{Bool, true, false}
-use mathlib.Core.List.{List, ◌++◌}
+use mathlib.Core.List.{List}
 use native.Mathlib.Omega.{arith}
 use lib.ListN.{length, get_or, drop, get_or-eq_default}
 use lib.Dec.{ltb}
@@ -13,17 +13,16 @@ use Rattle.rules.specs.declared.Limits.{Limits}
 use Rattle.rules.specs.Formula.{Formula, size}
 use Rattle.rules.specs.Sheet.{Sheet}
 use Rattle.rules.specs.ReadSheet.{sheet_bounds}
-use Rattle.rules.specs.WriteSheet.{write_formula, write_start, write_rung, write_sheet, sizes, WithinSheet}
-use Rattle.rules.specs.WriteCertificate.{WithinInvariant}
+use Rattle.rules.specs.WriteSheet.{write_start, write_rung, sizes}
 use Rattle.rules.specs.Certificate.{invariant_bounds}
 use Rattle.rules.specs.Clauses.{Vars, before as before_vars, after as after_vars, rungs_at, condition_at, before_at, ladder, condition, defining, rung_clauses, after_rungs}
 use Rattle.clauses.specs.declared.Layout.{Layout}
 use Rattle.clauses.specs.declared.Wrote.{Wrote}
 use Rattle.clauses.specs.Stack.{vars_of}
-use Rattle.clauses.specs.Formed.{Closes, Formed, Written}
+use Rattle.clauses.specs.Formed.{Formed, Written}
 use Rattle.clauses.specs.Runged.{Runged, Closed, RungsWritten}
 use Rattle.clauses.specs.Started.{Started}
-use Rattle.clauses.specs.Sets.{Numbered, Scratch, Given}
+use Rattle.clauses.specs.Sets.{Numbered, Held}
 use Rattle.clauses.proofs.AgreeLaws.{Agree, same_defining, same_rung_clauses, agree_after}
 use Rattle.clauses.proofs.SheetLaws.{after_condition, after_rung_bytes, after_starts, head_there, starts_there, starts_end, rungs_there, condition_there}
 
@@ -34,42 +33,8 @@ small_numbered map q j = go (ltb j (length map)) refl
     go true e = let h : j < length map = ltb-true j (length map) e in rw (q.at j h) (omega (arith, q.few))
     go false e = let h : length map ≤ j = ltb-false j (length map) e in rw (get_or-eq_default map 0 h) (omega arith)
 
--- a sheet and an invariant that are given, beside places that are enough
-pub record Held (l : Limits) (s c : List ℕ) (h : Layout) (before after : List ℕ) (t : Sheet) (inv : Formula) (rest : List ℕ) : Type 0 where
-  pub sheet_bytes : write_sheet t ≡ s
-  pub inputs_are : h.inputs ≡ t.inputs
-  pub coils_are : h.coils ≡ t.coils
-  pub rungs_are : h.rungs ≡ length t.rungs
-  pub rungs_at : h.at ≡ 7 + length (each write_start t.starts)
-  pub within : WithinSheet l t
-  pub invariant_bytes : drop 1 c ≡ write_formula inv ++ rest
-  pub closes : Closes rest
-  pub invariant_within : WithinInvariant l t inv
-  pub narrow : 1 + l.coils + l.inputs + l.records + 2 * l.invariant ≤ 32768
-  pub deep : l.depth ≤ 32
-  pub before_wide : l.coils ≤ length before
-  pub after_wide : l.coils ≤ length after
-
-pub held : {before after : List ℕ} → Scratch before after → {l : Limits} → {s c : List ℕ} → {h : Layout} → {t : Sheet} → {inv : Formula} → {rest : List ℕ}
-    → Given l s c h t inv rest → Held l s c h before after t inv rest
-held lent v = record {
-  sheet_bytes = v.sheet_bytes;
-  inputs_are = v.inputs_are;
-  coils_are = v.coils_are;
-  rungs_are = v.rungs_are;
-  rungs_at = v.rungs_at;
-  within = v.within;
-  invariant_bytes = v.invariant_bytes;
-  closes = v.closes;
-  invariant_within = v.invariant_within;
-  narrow = v.slight.narrow;
-  deep = v.slight.depth_fits;
-  before_wide = omega (arith, v.slight.coils_fit, lent.before_wide);
-  after_wide = omega (arith, v.slight.coils_fit, lent.after_wide);
-}
-
-module _ (l : Limits) (s c : List ℕ) (h : Layout) (before after : List ℕ) (t : Sheet) (inv : Formula) (rest : List ℕ)
-    (v : Held l s c h before after t inv rest) where
+module _ (l : Limits) (s c : List ℕ) (h : Layout) (before after stack : List ℕ) (t : Sheet) (inv : Formula) (rest : List ℕ)
+    (v : Held l s c h before after stack t inv rest) where
   pub agree_numbered : (map : List ℕ) → Numbered map → l.coils ≤ length map → Agree t.coils (vars_of map (h.coils + 1)) (before_vars t)
   agree_numbered map q w = record {
     inputs = λ j. let e : h.coils ≡ t.coils = v.coils_are in omega arith;
@@ -86,7 +51,7 @@ module _ (l : Limits) (s c : List ℕ) (h : Layout) (before after : List ℕ) (t
   }
 
   pub runged : Numbered after → (n : ℕ) → n < 9000000000000000000
-      → Runged s h.at h.rungs after (h.coils + 1) (h.coils + 1 + h.inputs) n (sheet_bounds l t) t.rungs (after_rung_bytes t)
+      → Runged s h.at h.rungs after (h.coils + 1) (h.coils + 1 + h.inputs) stack n (sheet_bounds l t) t.rungs (after_rung_bytes t)
   runged q n m = record {
     bytes = rw v.rungs_at (rungs_there s t v.sheet_bytes);
     counted = sym v.rungs_are;
@@ -107,7 +72,7 @@ module _ (l : Limits) (s c : List ℕ) (h : Layout) (before after : List ℕ) (t
 
   -- the rungs' clauses were written
   module _ (q : Numbered after) (n : ℕ) (few : n < 9000000000000000000) (out after' out₁ : List ℕ) (r : Wrote)
-      (x : RungsWritten s h.at h.rungs after (h.coils + 1) (h.coils + 1 + h.inputs) out n after' out₁ r) where
+      (x : RungsWritten s h.at h.rungs after (h.coils + 1) (h.coils + 1 + h.inputs) stack out n after' out₁ r) where
     closed : Closed h.at after (h.coils + 1) (h.coils + 1 + h.inputs) n t.rungs out after' out₁ r
     closed = x.of (sheet_bounds l t) t.rungs (after_rung_bytes t) (runged q n few)
 
@@ -132,9 +97,9 @@ module _ (l : Limits) (s c : List ℕ) (h : Layout) (before after : List ℕ) (t
     pub after_small : (j : ℕ) → get_or after' j 0 < 32768
     after_small = closed.small
 
-    pub condition_formed : length after' ≡ length after → (m : ℕ) → m < 9000000000000000000
-        → Formed s r.at after' (h.coils + 1) r.g m (sheet_bounds l t) t.condition after_condition
-    condition_formed f m k = record {
+    pub condition_formed : (stack' : List ℕ) → length stack' ≡ length stack → length after' ≡ length after → (m : ℕ) → m < 9000000000000000000
+        → Formed s r.at after' (h.coils + 1) r.g stack' m (sheet_bounds l t) t.condition after_condition
+    condition_formed stack' e f m k = record {
       bytes =
           let a : r.at ≡ 7 + length (each write_start t.starts) + length (each write_rung t.rungs) = omega (arith, ladder_written.at_is, v.rungs_at) in
           ap (λ (p : ℕ). drop p s) a ∙ condition_there s t v.sheet_bytes;
@@ -143,7 +108,7 @@ module _ (l : Limits) (s c : List ℕ) (h : Layout) (before after : List ℕ) (t
       mapped = record {
         inputs_fit = omega (arith, v.coils_are, v.within.coils_fit, v.within.inputs_fit, v.narrow);
         coils_fit = omega (arith, v.within.coils_fit, v.after_wide);
-        deep = v.deep;
+        deep = omega (arith, v.deep);
         small = after_small;
       };
       numbered = omega (arith, condition_first, v.within.coils_fit, v.within.inputs_fit, v.within.records_fit, v.narrow);
@@ -156,17 +121,17 @@ module _ (l : Limits) (s c : List ℕ) (h : Layout) (before after : List ℕ) (t
         ∙ ap (λ (g : ℕ). defining (after_vars t) g t.condition) condition_first
 
   -- the invariant, over coils before or after
-  pub invariant_formed : (map : List ℕ) → ((j : ℕ) → get_or map j 0 < 32768) → l.coils ≤ length map
+  pub invariant_formed : (map stack' : List ℕ) → ((j : ℕ) → get_or map j 0 < 32768) → l.coils ≤ length map → length stack' ≡ length stack
       → (g n : ℕ) → g + size inv ≤ 32768 → n < 9000000000000000000
-      → Formed c 1 map (h.coils + 1) g n (invariant_bounds l t) inv rest
-  invariant_formed map k w g n m few = record {
+      → Formed c 1 map (h.coils + 1) g stack' n (invariant_bounds l t) inv rest
+  invariant_formed map stack' k w e g n m few = record {
     bytes = v.invariant_bytes;
     closes = v.closes;
     fits = v.invariant_within.fits;
     mapped = record {
       inputs_fit = omega (arith, v.coils_are, v.within.coils_fit, v.narrow);
       coils_fit = omega (arith, v.within.coils_fit);
-      deep = v.deep;
+      deep = omega (arith, v.deep);
       small = k;
     };
     numbered = m;

@@ -55,8 +55,8 @@ module _ (map₀ map : List ℕ) (i : ℕ) (w : Numbering map₀ map i) where
 
 pub ruleset number_cases = (none_numbered, coil_number, one_numbered, all_numbered)
 
-module _ (s : List ℕ) (at : ℕ) (map : List ℕ) (base g : ℕ) (out : List ℕ) (n : ℕ) (q : FormulaAt s at map base g n) (out₁ : List ℕ) (w : Wrote)
-    (d : FormulaWritten s at map base g out n out₁ w) where
+module _ (s : List ℕ) (at : ℕ) (map : List ℕ) (base g : ℕ) (stack out : List ℕ) (n : ℕ) (q : FormulaAt s at map base g stack n) (out₁ : List ℕ) (w : Wrote)
+    (d : FormulaWritten s at map base g stack out n out₁ w) where
   there : Written at g n (length (write_formula q.formula)) (size q.formula) (defining (vars_of map base) g q.formula) out out₁ w
   there = d.of q.bounds q.formula q.rest q.formed
 
@@ -69,10 +69,10 @@ module _ (s : List ℕ) (at : ℕ) (map : List ℕ) (base g : ℕ) (out : List �
       record { few = omega (arith, there.n_is, few_clauses (vars_of map base) g q.formula, q.formed.few); g_fits = h; x_fits = h; y_fits = h }
 
   pub top_written : (on : Bool) (out₂ : List ℕ) (m : ℕ) → Emitted out₁ w.n (signed on (w.g - 1)) out₂ m
-      → TopWritten on s at map base g out n out₂ (record { at = w.at; g = w.g; n = m })
+      → TopWritten on s at map base g stack out n out₂ (record { at = w.at; g = w.g; n = m })
   top_written on out₂ m e = record { of = λ b f rest x. done b f rest x }
     where
-      done : (b : Bounds) (f : Formula) (rest : List ℕ) → Formed s at map base g n b f rest
+      done : (b : Bounds) (f : Formula) (rest : List ℕ) → Formed s at map base g stack n b f rest
           → Written at g n (length (write_formula f)) (size f) (defining (vars_of map base) g f ++ signed on (top g f)) out out₂ (record { at = w.at; g = w.g; n = m })
       done b f rest x =
           let y = d.of b f rest x in
@@ -85,9 +85,9 @@ module _ (s : List ℕ) (at : ℕ) (map : List ℕ) (base g : ℕ) (out : List �
             out_is = e.wrote ∙ (λ i. emits (y.out_is i) (y.n_is i) (signed on (t i))) ∙ sym (emits_append out n cs (signed on (top g f)));
           }
 
-pub formula_passed : (s : List ℕ) (at : ℕ) (map : List ℕ) (base g : ℕ) (out : List ℕ) → FormulaAt s at map base g (length out / 3)
-    → (out' : List ℕ) (w : Wrote) → FormulaWritten s at map base g out (length out / 3) out' w → FormulaPassed s at map base g out out' w.g
-formula_passed s at map base g out q out' w d =
+pub formula_passed : (s : List ℕ) (at : ℕ) (map : List ℕ) (base g : ℕ) (stack out : List ℕ) → FormulaAt s at map base g stack (length out / 3)
+    → (out' : List ℕ) (w : Wrote) → FormulaWritten s at map base g stack out (length out / 3) out' w → FormulaPassed s at map base g stack out out' w.g
+formula_passed s at map base g stack out q out' w d =
     let y = d.of q.bounds q.formula q.rest q.formed in
     record {
       same = y.out_is ∙ emits_none out (length out / 3) (defining (vars_of map base) g q.formula) (omega arith);

@@ -13,28 +13,28 @@ use Rattle.clauses.specs.Stack.{vars_of}
 abbrev pub Closes : List ℕ → Type 0
 Closes rest = one_of formula_kinds (get_or rest 0 0) ≡ false
 
--- inputs and coils up to these bounds have variables whose literals fit 16 bits, and a stack of 32 is as high as they say
-pub record Mapped (map : List ℕ) (base : ℕ) (b : Bounds) : Type 0 where
+-- inputs and coils up to these bounds have variables whose literals fit 16 bits, and the stack is as high as they say
+pub record Mapped (map : List ℕ) (base : ℕ) (stack : List ℕ) (b : Bounds) : Type 0 where
   pub inputs_fit : base + b.inputs ≤ 32768
   pub coils_fit : b.coils ≤ length map
-  pub deep : b.depth ≤ 32
+  pub deep : b.depth ≤ length stack
   pub small : (j : ℕ) → get_or map j 0 < 32768
 
 -- from place `at` on the bytes are those of f, then a byte that closes it; its first record has variable g, its first clause number n
-pub record Formed (s : List ℕ) (at : ℕ) (map : List ℕ) (base g : ℕ) (n : ℕ) (b : Bounds) (f : Formula) (rest : List ℕ) : Type 0 where
+pub record Formed (s : List ℕ) (at : ℕ) (map : List ℕ) (base g : ℕ) (stack : List ℕ) (n : ℕ) (b : Bounds) (f : Formula) (rest : List ℕ) : Type 0 where
   pub bytes : drop at s ≡ write_formula f ++ rest
   pub closes : Closes rest
   pub fits : Fits b f
-  pub mapped : Mapped map base b
+  pub mapped : Mapped map base stack b
   pub numbered : g + size f ≤ 32768
   pub few : n + 3 * size f < 9223372036854775808
 
 -- there is such a formula
-pub record FormulaAt (s : List ℕ) (at : ℕ) (map : List ℕ) (base g : ℕ) (n : ℕ) : Type 0 where
+pub record FormulaAt (s : List ℕ) (at : ℕ) (map : List ℕ) (base g : ℕ) (stack : List ℕ) (n : ℕ) : Type 0 where
   pub bounds : Bounds
   pub formula : Formula
   pub rest : List ℕ
-  pub formed : Formed s at map base g n bounds formula rest
+  pub formed : Formed s at map base g stack n bounds formula rest
 
 -- so many bytes were read, with so many records, and these clauses written
 pub record Written (at g n bytes records : ℕ) (cs : List Clause) (out out' : List ℕ) (r : Wrote) : Type 0 where
@@ -44,16 +44,16 @@ pub record Written (at g n bytes records : ℕ) (cs : List Clause) (out out' : L
   pub out_is : out' ≡ emits out n cs
 
 -- whatever formula stands there, its clauses were written
-pub record FormulaWritten (s : List ℕ) (at : ℕ) (map : List ℕ) (base g : ℕ) (out : List ℕ) (n : ℕ) (out' : List ℕ) (r : Wrote) : Type 0 where
-  pub of : (b : Bounds) (f : Formula) (rest : List ℕ) → Formed s at map base g n b f rest
+pub record FormulaWritten (s : List ℕ) (at : ℕ) (map : List ℕ) (base g : ℕ) (stack out : List ℕ) (n : ℕ) (out' : List ℕ) (r : Wrote) : Type 0 where
+  pub of : (b : Bounds) (f : Formula) (rest : List ℕ) → Formed s at map base g stack n b f rest
       → Written at g n (length (write_formula f)) (size f) (defining (vars_of map base) g f) out out' r
 
 -- the same with the unit clause of its top after them
-pub record TopWritten (on : Bool) (s : List ℕ) (at : ℕ) (map : List ℕ) (base g : ℕ) (out : List ℕ) (n : ℕ) (out' : List ℕ) (r : Wrote) : Type 0 where
-  pub of : (b : Bounds) (f : Formula) (rest : List ℕ) → Formed s at map base g n b f rest
+pub record TopWritten (on : Bool) (s : List ℕ) (at : ℕ) (map : List ℕ) (base g : ℕ) (stack out : List ℕ) (n : ℕ) (out' : List ℕ) (r : Wrote) : Type 0 where
+  pub of : (b : Bounds) (f : Formula) (rest : List ℕ) → Formed s at map base g stack n b f rest
       → Written at g n (length (write_formula f)) (size f) (defining (vars_of map base) g f ++ signed on (top g f)) out out' r
 
 -- nothing was written, and the answer is the variable after its records
-pub record FormulaPassed (s : List ℕ) (at : ℕ) (map : List ℕ) (base g : ℕ) (out out' : List ℕ) (r : ℕ) : Type 0 where
+pub record FormulaPassed (s : List ℕ) (at : ℕ) (map : List ℕ) (base g : ℕ) (stack out out' : List ℕ) (r : ℕ) : Type 0 where
   pub same : out' ≡ out
-  pub of : (b : Bounds) (f : Formula) (rest : List ℕ) → Formed s at map base g (length out / 3) b f rest → r ≡ g + size f
+  pub of : (b : Bounds) (f : Formula) (rest : List ℕ) → Formed s at map base g stack (length out / 3) b f rest → r ≡ g + size f

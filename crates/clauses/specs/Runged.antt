@@ -15,21 +15,21 @@ pub record CoilAt (s : List ℕ) (at : ℕ) (map : List ℕ) : Type 0 where
   pub within : number_at s at 1 < length map
 
 -- from place `at` on the bytes are those of the rungs rs; their first record has variable g, their first clause number n
-pub record Runged (s : List ℕ) (at rungs : ℕ) (map : List ℕ) (base g : ℕ) (n : ℕ) (b : Bounds) (rs : List Rung) (rest : List ℕ) : Type 0 where
+pub record Runged (s : List ℕ) (at rungs : ℕ) (map : List ℕ) (base g : ℕ) (stack : List ℕ) (n : ℕ) (b : Bounds) (rs : List Rung) (rest : List ℕ) : Type 0 where
   pub bytes : drop at s ≡ each write_rung rs ++ rest
   pub counted : length rs ≡ rungs
   pub fits : All (λ (r : Rung). Fits b r.formula) rs
   pub named : All (λ (r : Rung). r.coil < b.coils) rs
-  pub mapped : Mapped map base b
+  pub mapped : Mapped map base stack b
   pub numbered : g + sizes rs ≤ 32768
   pub few : n + 3 * sizes rs < 9223372036854775808
 
 -- there are such rungs
-pub record RungsAt (s : List ℕ) (at rungs : ℕ) (map : List ℕ) (base g : ℕ) (n : ℕ) : Type 0 where
+pub record RungsAt (s : List ℕ) (at rungs : ℕ) (map : List ℕ) (base g : ℕ) (stack : List ℕ) (n : ℕ) : Type 0 where
   pub bounds : Bounds
   pub rungs_are : List Rung
   pub rest : List ℕ
-  pub runged : Runged s at rungs map base g n bounds rungs_are rest
+  pub runged : Runged s at rungs map base g stack n bounds rungs_are rest
 
 -- the clauses of rs were written, and the map has the coils' variables after them
 pub record Closed (at : ℕ) (map : List ℕ) (base g n : ℕ) (rs : List Rung) (out map' out' : List ℕ) (r : Wrote) : Type 0 where
@@ -38,5 +38,5 @@ pub record Closed (at : ℕ) (map : List ℕ) (base g n : ℕ) (rs : List Rung) 
   pub small : (j : ℕ) → get_or map' j 0 < 32768
 
 -- whatever rungs stand there, their clauses were written
-pub record RungsWritten (s : List ℕ) (at rungs : ℕ) (map : List ℕ) (base g : ℕ) (out : List ℕ) (n : ℕ) (map' out' : List ℕ) (r : Wrote) : Type 0 where
-  pub of : (b : Bounds) (rs : List Rung) (rest : List ℕ) → Runged s at rungs map base g n b rs rest → Closed at map base g n rs out map' out' r
+pub record RungsWritten (s : List ℕ) (at rungs : ℕ) (map : List ℕ) (base g : ℕ) (stack out : List ℕ) (n : ℕ) (map' out' : List ℕ) (r : Wrote) : Type 0 where
+  pub of : (b : Bounds) (rs : List Rung) (rest : List ℕ) → Runged s at rungs map base g stack n b rs rest → Closed at map base g n rs out map' out' r

@@ -78,16 +78,15 @@ Reaches Or map base = Unit {0}
 Reaches Closing map base = Unit {0}
 
 -- and the stack has the record's operands
-pub record Reached (p : Part) (map : List ℕ) (base depth : ℕ) : Type 0 where
+pub record Reached (p : Part) (map : List ℕ) (base : ℕ) (stack : List ℕ) (depth : ℕ) : Type 0 where
   pub reaches : Reaches p map base
   pub enough : takes p ≤ depth
-  pub within : depth ≤ 32
+  pub within : depth ≤ length stack
 
 pub record Enterable (p : Part) (map : List ℕ) (base g : ℕ) (stack : List ℕ) (depth n : ℕ) : Type 0 where
   pub ready : (p ≡ Closing → ⊥) → Ready (takes p) g stack depth n
   pub reaches : Reaches p map base
   pub within : depth ≤ length stack
-  pub tall : length stack ≡ 32
   pub mapped : (j : ℕ) → get_or map j 0 < 32768
 
 -- a closing record leaves all as it was

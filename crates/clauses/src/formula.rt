@@ -6,20 +6,19 @@ ghost use Rattle.clauses.specs.Formed.{FormulaAt, FormulaWritten};
 use super::gates::{Gate, define, values};
 use super::{Variables, Wrote};
 use formulas::Part;
-use rules::Sheet;
 
-// The variables of the records whose values no record has taken yet, the last on top.
-#[derive(Clone, Copy, Debug, PartialEq, Eq)]
-pub struct Stack {
-    pub variables: [u16; Sheet::DEPTH],
-    pub height: usize,
+// The variables of the records whose values no record has taken yet, on lent places, the last on top.
+#[derive(Drop)]
+struct Stack<'a> {
+    variables: &'a mut [u16],
+    height: usize,
 }
 
 // What the record says of its variable, over the variables on the stack; None of a record that closes the formula.
 #[tactic(auto, using(crate::proofs::StackLaws::operand_cases), unfolding(crate::specs::Stack::Reaches, crate::specs::Stack::takes, crate::specs::Stack::gate_of))]
-fn gate_of(p: Part, vars: Variables, stack: &Stack) -> Option<Gate>
-    requires { Reached p vars.coils.now vars.inputs stack.now.height }
-    ensures { result ≡ gate_of (vars_of vars.entry.coils.now vars.entry.inputs) p (stk stack.now.variables stack.now.height) }
+fn gate_of(p: Part, vars: Variables, stack: &Stack<'_>) -> Option<Gate>
+    requires { Reached p vars.coils.now vars.inputs stack.now.variables.now stack.now.height }
+    ensures { result ≡ gate_of (vars_of vars.entry.coils.now vars.entry.inputs) p (stk stack.now.variables.now stack.now.height) }
 {
     match p {
         Part::Input(j) => Some(Gate::Same(vars.inputs + j)),
@@ -40,9 +39,16 @@ fn gate_of(p: Part, vars: Variables, stack: &Stack) -> Option<Gate>
 
 // The next record: its clauses, and its variable in place of the values that it takes; the number of the next clause.
 // None of a record that closes the formula.
-fn enter(p: Part, vars: Variables, w: Wrote, stack: &mut Stack, out: &mut [u16]) -> Option<usize>
-    requires { Enterable p vars.coils.now vars.inputs w.g stack.old.variables stack.old.height w.n }
-    ensures { Entered p vars.entry.coils.now vars.entry.inputs w.g stack.old.variables stack.old.height out.old w.n stack.new.variables stack.new.height out.new result }
+fn enter(
+    p: Part,
+    vars: Variables,
+    w: Wrote,
+    stack: &mut Stack<'_>,
+    out: &mut [u16],
+) -> Option<usize>
+    requires { Enterable p vars.coils.now vars.inputs w.g stack.old.variables.now stack.old.height w.n }
+    ensures same { stack.new.variables.ghost_name ≡ stack.old.variables.ghost_name }
+    ensures entered { Entered p vars.entry.coils.now vars.entry.inputs w.g stack.old.variables.now stack.old.height out.old w.n stack.new.variables.now stack.new.height out.new result }
 {
     let Some(gate) = gate_of(p, vars, stack) else {
         return None;
@@ -55,13 +61,19 @@ fn enter(p: Part, vars: Variables, w: Wrote, stack: &mut Stack, out: &mut [u16])
 
 // The clauses of the formula at a place, up to the record that closes it.
 #[tactic(auto, using(crate::proofs::FormulaLaws::formula_cases))]
-pub(crate) fn formula_clauses(s: &[u8], vars: Variables, from: Wrote, out: &mut [u16]) -> Wrote
-    requires { FormulaAt s.now from.at vars.coils.now vars.inputs from.g from.n }
-    ensures { FormulaWritten s.now from.at vars.entry.coils.now vars.entry.inputs from.g out.old from.n out.new result }
+pub(crate) fn formula_clauses(
+    s: &[u8],
+    vars: Variables,
+    from: Wrote,
+    stack: &mut [u16],
+    out: &mut [u16],
+) -> Wrote
+    requires { FormulaAt s.now from.at vars.coils.now vars.inputs from.g stack.old from.n }
+    ensures { FormulaWritten s.now from.at vars.entry.coils.now vars.entry.inputs from.g stack.old out.old from.n out.new result }
 {
     let mut w = from;
     let mut stack = Stack {
-        variables: [0; Sheet::DEPTH],
+        variables: stack,
         height: 0,
     };
     loop {

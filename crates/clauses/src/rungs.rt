@@ -22,14 +22,15 @@ pub(crate) fn rung_clauses(
     map: &mut [u16],
     inputs: u16,
     from: Wrote,
+    stack: &mut [u16],
     out: &mut [u16],
 ) -> Wrote
-    requires { RungsAt s.now from.at rungs map.old inputs from.g from.n }
-    ensures { RungsWritten s.now from.at rungs map.old inputs from.g out.old from.n map.new out.new result }
+    requires { RungsAt s.now from.at rungs map.old inputs from.g stack.old from.n }
+    ensures { RungsWritten s.now from.at rungs map.old inputs from.g stack.old out.old from.n map.new out.new result }
 {
     let mut w = from;
     for i in 0..rungs {
-        w = formula_clauses(s, Variables { coils: map, inputs }, w, out);
+        w = formula_clauses(s, Variables { coils: map, inputs }, w, stack, out);
         close(s, w.at, map, w.g - 1);
         w.at += 3;
     }

@@ -4,7 +4,7 @@ ghost use Rattle.rules.specs.Certificate.{Which.start, Which.keep, Which.safe};
 ghost use Rattle.rules.specs.Verdict.{which_of};
 ghost use Rattle.clauses.specs.Formed.{FormulaAt, TopWritten, FormulaPassed};
 ghost use Rattle.clauses.specs.Runged.{RungsAt, RungsWritten};
-ghost use Rattle.clauses.specs.Sets.{Numbered, Scratch, SetThere, SetWritten};
+ghost use Rattle.clauses.specs.Sets.{Numbered, Fresh, ClauseSetAt, ClauseSetWritten, SetThere, SetWritten};
 
 use super::formula::formula_clauses;
 use super::gates::unit;
@@ -25,9 +25,16 @@ fn number_coils(map: &mut [u16])
 }
 
 // The clauses of the sheet's rungs, from number n on.
-fn ladder(s: &[u8], h: Layout, map: &mut [u16], out: &mut [u16], n: usize) -> Wrote
-    requires { RungsAt s.now h.at h.rungs map.old (h.coils + 1) (h.coils + 1 + h.inputs) n }
-    ensures { RungsWritten s.now h.at h.rungs map.old (h.coils + 1) (h.coils + 1 + h.inputs) out.old n map.new out.new result }
+fn ladder(
+    s: &[u8],
+    h: Layout,
+    map: &mut [u16],
+    stack: &mut [u16],
+    out: &mut [u16],
+    n: usize,
+) -> Wrote
+    requires { RungsAt s.now h.at h.rungs map.old (h.coils + 1) (h.coils + 1 + h.inputs) stack.old n }
+    ensures { RungsWritten s.now h.at h.rungs map.old (h.coils + 1) (h.coils + 1 + h.inputs) stack.old out.old n map.new out.new result }
 {
     let inputs = h.coils + 1;
     let from = Wrote {
@@ -35,16 +42,23 @@ fn ladder(s: &[u8], h: Layout, map: &mut [u16], out: &mut [u16], n: usize) -> Wr
         g: inputs + h.inputs,
         n,
     };
-    rung_clauses(s, h.rungs, map, inputs, from, out)
+    rung_clauses(s, h.rungs, map, inputs, from, stack, out)
 }
 
 // The clauses of a formula, then the unit clause of its top, plain or negated.
 #[tactic(auto, using(crate::proofs::TopLaws::top_cases))]
-fn formula_top(s: &[u8], vars: Variables, from: Wrote, out: &mut [u16], on: bool) -> Wrote
-    requires { FormulaAt s.now from.at vars.coils.now vars.inputs from.g from.n }
-    ensures { TopWritten on s.now from.at vars.entry.coils.now vars.entry.inputs from.g out.old from.n out.new result }
+fn formula_top(
+    s: &[u8],
+    vars: Variables,
+    from: Wrote,
+    stack: &mut [u16],
+    out: &mut [u16],
+    on: bool,
+) -> Wrote
+    requires { FormulaAt s.now from.at vars.coils.now vars.inputs from.g stack.old from.n }
+    ensures { TopWritten on s.now from.at vars.entry.coils.now vars.entry.inputs from.g stack.old out.old from.n out.new result }
 {
-    let w = formula_clauses(s, vars, from, out);
+    let w = formula_clauses(s, vars, from, stack, out);
     Wrote {
         n: unit(out, w.n, w.g - 1, on),
         ..w
@@ -53,15 +67,15 @@ fn formula_top(s: &[u8], vars: Variables, from: Wrote, out: &mut [u16], on: bool
 
 // The variable after a formula's records. No clause is written: the first would be one past the room.
 #[tactic(auto, using(crate::proofs::TopLaws::top_cases))]
-fn formula_end(s: &[u8], vars: Variables, from: Wrote, out: &mut [u16]) -> u16
-    requires { FormulaAt s.now from.at vars.coils.now vars.inputs from.g (length out.old / 3) }
-    ensures { FormulaPassed s.now from.at vars.entry.coils.now vars.entry.inputs from.g out.old out.new result }
+fn formula_end(s: &[u8], vars: Variables, from: Wrote, stack: &mut [u16], out: &mut [u16]) -> u16
+    requires { FormulaAt s.now from.at vars.coils.now vars.inputs from.g stack.old (length out.old / 3) }
+    ensures { FormulaPassed s.now from.at vars.entry.coils.now vars.entry.inputs from.g stack.old out.old out.new result }
 {
     let past = Wrote {
         n: out.len() / 3,
         ..from
     };
-    formula_clauses(s, vars, past, out).g
+    formula_clauses(s, vars, past, stack, out).g
 }
 
 // Set 1: the start values, the invariant before, its top negated. The sheet's formulas are passed for their variables.
@@ -71,15 +85,16 @@ fn start_set(
     h: Layout,
     before: &[u16],
     after: &mut [u16],
+    stack: &mut [u16],
     out: &mut [u16],
 ) -> usize
-    requires there { SetThere s.now c.now h }
-    requires lent { Scratch before.now after.old }
-    ensures { SetWritten start s.now c.now h out.old out.new result }
+    requires there { ClauseSetAt s.now c.now h before.now after.old stack.old }
+    requires fresh { Fresh before.now after.old }
+    ensures { ClauseSetWritten start s.now c.now h before.now after.old stack.old out.old out.new result }
 {
     let inputs = h.coils + 1;
     let full = out.len() / 3;
-    let r = ladder(s, h, after, out, full);
+    let r = ladder(s, h, after, stack, out, full);
     let g = formula_end(
         s,
         Variables {
@@ -87,6 +102,7 @@ fn start_set(
             inputs,
         },
         r,
+        stack,
         out,
     );
     let n = start_units(s, h.coils, out);
@@ -94,7 +110,7 @@ fn start_set(
         coils: before,
         inputs,
     };
-    formula_top(c, old, Wrote { at: 1, g, n }, out, false).n
+    formula_top(c, old, Wrote { at: 1, g, n }, stack, out, false).n
 }
 
 // Set 2: the rungs, the invariant before, its top, the invariant after, its top negated. The condition is passed.
@@ -104,25 +120,26 @@ fn keep_set(
     h: Layout,
     before: &[u16],
     after: &mut [u16],
+    stack: &mut [u16],
     out: &mut [u16],
 ) -> usize
-    requires there { SetThere s.now c.now h }
-    requires lent { Scratch before.now after.old }
-    ensures { SetWritten keep s.now c.now h out.old out.new result }
+    requires there { ClauseSetAt s.now c.now h before.now after.old stack.old }
+    requires fresh { Fresh before.now after.old }
+    ensures { ClauseSetWritten keep s.now c.now h before.now after.old stack.old out.old out.new result }
 {
     let inputs = h.coils + 1;
-    let r = ladder(s, h, after, out, 0);
+    let r = ladder(s, h, after, stack, out, 0);
     let new = Variables {
         coils: after,
         inputs,
     };
-    let g = formula_end(s, new, r, out);
+    let g = formula_end(s, new, r, stack, out);
     let old = Variables {
         coils: before,
         inputs,
     };
-    let i = formula_top(c, old, Wrote { at: 1, g, n: r.n }, out, true);
-    formula_top(c, new, Wrote { at: 1, ..i }, out, false).n
+    let i = formula_top(c, old, Wrote { at: 1, g, n: r.n }, stack, out, true);
+    formula_top(c, new, Wrote { at: 1, ..i }, stack, out, false).n
 }
 
 // Set 3: the rungs, the condition, the invariant before, its top, the condition's top negated.
@@ -132,14 +149,15 @@ fn safe_set(
     h: Layout,
     before: &[u16],
     after: &mut [u16],
+    stack: &mut [u16],
     out: &mut [u16],
 ) -> usize
-    requires there { SetThere s.now c.now h }
-    requires lent { Scratch before.now after.old }
-    ensures { SetWritten safe s.now c.now h out.old out.new result }
+    requires there { ClauseSetAt s.now c.now h before.now after.old stack.old }
+    requires fresh { Fresh before.now after.old }
+    ensures { ClauseSetWritten safe s.now c.now h before.now after.old stack.old out.old out.new result }
 {
     let inputs = h.coils + 1;
-    let r = ladder(s, h, after, out, 0);
+    let r = ladder(s, h, after, stack, out, 0);
     let q = formula_clauses(
         s,
         Variables {
@@ -147,27 +165,63 @@ fn safe_set(
             inputs,
         },
         r,
+        stack,
         out,
     );
     let old = Variables {
         coils: before,
         inputs,
     };
-    let i = formula_top(c, old, Wrote { at: 1, ..q }, out, true);
+    let i = formula_top(c, old, Wrote { at: 1, ..q }, stack, out, true);
     unit(out, i.n, q.g - 1, false)
 }
 
+// Places for a set: the coils' variables before and after the scan, and a formula's stack.
+#[derive(Drop)]
+pub struct Scratch<'a> {
+    pub before: &'a mut [u16],
+    pub after: &'a mut [u16],
+    pub stack: &'a mut [u16],
+}
+
 // One of the three sets, as far as there is room for it; answers how many clauses it has.
-pub fn clause_set(set: Set, s: &[u8], c: &[u8], h: Layout, out: &mut [u16]) -> usize
+pub fn clause_set(
+    set: Set,
+    s: &[u8],
+    c: &[u8],
+    h: Layout,
+    scratch: Scratch<'_>,
+    out: &mut [u16],
+) -> usize
+    requires { ClauseSetAt s.now c.now h scratch.before.now scratch.after.now scratch.stack.now }
+    ensures { ClauseSetWritten (which_of set) s.now c.now h scratch.entry.before.now scratch.entry.after.now scratch.entry.stack.now out.old out.new result }
+{
+    let Scratch {
+        before,
+        after,
+        stack,
+    } = scratch;
+    number_coils(before);
+    number_coils(after);
+    match set {
+        Set::Start => start_set(s, c, h, before, after, stack, out),
+        Set::Keep => keep_set(s, c, h, before, after, stack, out),
+        Set::Safe => safe_set(s, c, h, before, after, stack, out),
+    }
+}
+
+// The same on places of its own, enough for the base limits.
+pub fn write_clauses(set: Set, s: &[u8], c: &[u8], h: Layout, out: &mut [u16]) -> usize
     requires { SetThere s.now c.now h }
     ensures { SetWritten (which_of set) s.now c.now h out.old out.new result }
 {
     let mut before = [0u16; Sheet::COILS];
-    number_coils(&mut before);
-    let mut after = before;
-    match set {
-        Set::Start => start_set(s, c, h, &before, &mut after, out),
-        Set::Keep => keep_set(s, c, h, &before, &mut after, out),
-        Set::Safe => safe_set(s, c, h, &before, &mut after, out),
-    }
+    let mut after = [0u16; Sheet::COILS];
+    let mut stack = [0u16; Sheet::DEPTH];
+    let scratch = Scratch {
+        before: &mut before,
+        after: &mut after,
+        stack: &mut stack,
+    };
+    clause_set(set, s, c, h, scratch, out)
 }

@@ -6,7 +6,7 @@ ghost use Rattle.clauses.specs.Sets.{Slight, SetThere};
 ghost use Rattle.clauses.specs.Translated.{Did, SetCounted, SetTranslated, SheetThere, CertificateTranslated};
 
 use super::Layout;
-use super::sets::clause_set;
+use super::sets::write_clauses;
 use rules::{Fault, Limits, Refusal, Set, Sheet};
 use sheets::Outline;
 
@@ -16,7 +16,7 @@ fn count_set(set: Set, s: &[u8], c: &[u8], h: Layout) -> usize
     requires { SetThere s.now c.now h }
     ensures { SetCounted (which_of set) s.now c.now h result }
 {
-    clause_set(set, s, c, h, &mut [])
+    write_clauses(set, s, c, h, &mut [])
 }
 
 // The set is counted first, and written where there is room for all of it.
@@ -29,7 +29,7 @@ fn write_set(set: Set, s: &[u8], c: &[u8], h: Layout, room: &mut [u16]) -> Resul
     if room.len() / 3 < count {
         return Err(Fault::ShortRoom.at(0));
     }
-    clause_set(set, s, c, h, room);
+    write_clauses(set, s, c, h, room);
     Ok(count)
 }
 

@@ -13,8 +13,8 @@ define-requires c = definable _ _ _ _ _ _ _ c.requires _ c.in-Some.ensures
 pub bounds-stack-k : goal.bounds-stack-k
 bounds-stack-k c = taken_room _ _ _ _ _ _ _ c.requires _ c.in-Some.ensures _ c.values.ensures
 
-pub returns-in_default : goal.returns-in_default
-returns-in_default c = entered_closing _ _ _ _ _ _ _ c.requires _ c.in_default.ensures
+pub returns-in_default-clause-entered : goal.returns-in_default-clause-entered
+returns-in_default-clause-entered c = entered_closing _ _ _ _ _ _ _ c.requires _ c.in_default.ensures
 
-pub returns : goal.returns
-returns c = entered _ _ _ _ _ _ _ c.requires _ c.in-Some.ensures _ c.values.ensures _ _ _ c.define.ensures
+pub returns-clause-entered : goal.returns-clause-entered
+returns-clause-entered c = entered _ _ _ _ _ _ _ c.requires _ c.in-Some.ensures _ c.values.ensures _ _ _ c.define.ensures
