@@ -102,8 +102,6 @@ module _ (l : Limits) (b : Bor (List ℕ)) (c : List ℕ) (h : Outline) (inputs 
       → Plays l b.now c h inputs coils w r
   plays inputs₂ coils₃ w' r f a = judged_so l b c h inputs coils w a coils₁ e n q coils₂ i long₂ inputs₁ ei inputs₂ coils₃ w' r f
 
-pub ruleset play_cases = (starts_stand, replay_here, plays)
-
 -- places of the judge's own are enough
 module _ (l : Limits) (s c : List ℕ) (h : Outline) (inputs coils w : List ℕ) (ei : 256 ≡ length inputs) (ec : 256 ≡ length coils) (ew : 32 ≡ length w) where
   pub played_at : TracedAt l s c h → PlayedAt l s c h inputs coils w

@@ -34,8 +34,6 @@ module _ (l : Limits) (s c w w' : List ℕ) (a : Result Answer Refusal) (h : Che
   unfolding case_of number_of place_of answer_of
   tells_refused x n e f = told (refused (refusal_of x)) (ap answer_of e) n x.place 2 refl f refl
 
-pub ruleset check_cases = (tells_accepted, tells_confirmed, tells_refused)
-
 module _ (l : Limits) (set : ℕ) (s c w w' : List ℕ) (a : Result ℕ Refusal) (h : Translated l set s c w w' a) where
   counted : (t : Translation) (n : ℕ) → written_of t ≡ Ok n → (written_case t ≡ 0) × (written_number t ≡ n) × (written_place t ≡ 0)
   unfolding written_of written_case written_number written_place
@@ -59,5 +57,3 @@ module _ (l : Limits) (set : ℕ) (s c w w' : List ℕ) (a : Result ℕ Refusal)
   tells_withheld x n e f =
       let q = refused_with (translation l set s c (length w)) x (sym h.answered ∙ ap count_of e) in
       record { case_is = sym q.0; number_is = f ∙ sym q.1; place_is = sym q.2; left = h.left }
-
-pub ruleset translate_cases = (tells_written, tells_withheld)

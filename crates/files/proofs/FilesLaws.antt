@@ -69,5 +69,3 @@ module _ (s c w : List ℕ) where
       translated w' r o a z = let b = named x e in record { answered = rw (b, o) a; left = rw (b, o) z }
 
 pub ruleset judge_files_cases = (refused_27, checked)
-
-pub ruleset translate_files_cases = (no_set, withheld_27, translated)

@@ -33,7 +33,6 @@ pub fn judge_files(sheet: &[u8], certificate: &[u8], work: &mut [u16]) -> Result
 }
 
 // The translator's answer, after 29 and 27.
-#[tactic(auto, using(crate::proofs::FilesLaws::translate_files_cases))]
 pub fn translate_files(
     set: u32,
     sheet: &[u8],

@@ -325,5 +325,3 @@ module _ (l : Limits) (a : Ladder) (c : List ℕ) (m₀ : Places) where
         pub ended_there : r ≡ Ok None → (k : Result Answer Told) → Finishes c p k
             → Replays l a c m₀.inputs.now inputs' m₀.coils.now coils' m₀.stack.now w' k
         ended_there e k b h = record { answered = at_done h e k b; inputs_long = x; coils_long = y; stack_long = z }
-
-pub ruleset replay_cases = (begins, ready, nearer, end_inside, goes_on, refused_there, ended_there)
