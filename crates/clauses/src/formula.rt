@@ -76,6 +76,7 @@ pub(crate) fn formula_clauses(
         variables: stack,
         height: 0,
     };
+    // Where the formula ends is known only at the record that closes it.
     loop {
         let p = formulas::part_at(s, w.at);
         let Some(n) = enter(p, vars, w, &mut stack, out) else {

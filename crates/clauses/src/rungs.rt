@@ -29,7 +29,7 @@ pub(crate) fn rung_clauses(
     ensures { RungsWritten s.now from.at rungs map.old inputs from.g stack.old out.old from.n map.new out.new result }
 {
     let mut w = from;
-    for i in 0..rungs {
+    for _ in 0..rungs {
         w = formula_clauses(s, Variables { coils: map, inputs }, w, stack, out);
         close(s, w.at, map, w.g - 1);
         w.at += 3;

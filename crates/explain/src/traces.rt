@@ -92,7 +92,7 @@ fn past_scans(trace: &[u8], scans: usize) -> Option<usize> {
     Some(record.next)
 }
 
-// A trace up to the end of a scan, and u8::from(Kind::End).
+// A trace up to the end of a scan, and END after it.
 fn cut_after(trace: &mut [u8], scan: usize) -> Option<&[u8]> {
     let place = past_scans(trace, scan)?;
     *trace.get_mut(place)? = u8::from(Kind::End);

@@ -2,7 +2,7 @@
 #![tactic(auto)]
 
 ghost use Rattle.std.specs.Prelude.{◌≡◌};
-ghost use Rattle.records.specs.Found.{FoundAt, DueBy, byte_at, number_at};
+ghost use Rattle.records.specs.Found.{FoundAt, DueBy};
 
 use records::{Common, Kind, NoRecord, Record};
 use rules::Fault;
@@ -34,19 +34,5 @@ impl<'a> Reader<'a> {
         ensures { DueBy (F.post allowed) self.entry.src.now self.entry.at faults result }
     {
         records::due_at(self.src, self.at, faults, allowed)
-    }
-
-    // The byte `k` bytes into the record at the reader's place.
-    pub fn byte(self, k: usize) -> u8
-        ensures { result ≡ byte_at self.entry.src.now self.entry.at k }
-    {
-        records::byte_at(self.src, self.at, k)
-    }
-
-    // The number `k` bytes into it.
-    pub fn number(self, k: usize) -> u16
-        ensures { result ≡ number_at self.entry.src.now self.entry.at k }
-    {
-        records::number_at(self.src, self.at, k)
     }
 }

@@ -101,6 +101,7 @@ pub(crate) fn read_entry(l: Limits, s: &[u8], d: Kept, whole: Record) -> Result<
         depth: d.depth,
         count: d.count,
     };
+    // Not `map_err(sheet_fault)?`: its proof is left with the fact that the function was called, and did not close.
     match formula_record(b, p, s, d.at, whole.kind) {
         Ok(q) => Ok(Some(Kept {
             spot: Spot::Rungs,

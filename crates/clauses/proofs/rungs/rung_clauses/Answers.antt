@@ -15,4 +15,4 @@ pub overflow_add-w : goal.overflow_add-w
 overflow_add-w c = search (rules, rung_cases)
 
 pub returns : goal.returns
-returns c = runs_out _ _ _ _ _ _ _ _ _ _ _ _ _ _ _ _ c.loop-i.invariant c.loop-i-test.false
+returns c = runs_out _ _ _ _ _ _ _ _ _ _ _ _ _ _ _ _ c.loop.invariant c.loop-test.false
