@@ -6,36 +6,13 @@ use records::{Kind, NoRecord};
 use std::io;
 use std::io::Print;
 
-fn name(kind: Kind) -> &'static str {
-    match kind {
-        Kind::Head => "HEAD",
-        Kind::Start => "START",
-        Kind::Input => "INPUT contact",
-        Kind::Coil => "COIL contact",
-        Kind::Constant => "CONSTANT",
-        Kind::Not => "NOT",
-        Kind::And => "AND",
-        Kind::Or => "OR",
-        Kind::Rung => "RUNG",
-        Kind::Condition => "CONDITION",
-        Kind::End => "END",
-        Kind::Step => "STEP",
-        Kind::Qed => "QED",
-        Kind::Safe => "SAFE",
-        Kind::Invariant => "INVARIANT",
-        Kind::Trace => "TRACE",
-        Kind::InputOn => "INPUT-ON",
-        Kind::Scan => "SCAN",
-    }
-}
-
 // What stands at a place of some bytes.
 fn say_record(rt: &impl Print, bytes: &[u8], place: usize) -> io::Result<()> {
     match records::record_at(bytes, place) {
-        Ok(record) => println!(rt; "{}.", name(record.kind)),
+        Ok(record) => println!(rt; "{}.", record.kind),
         Err(NoRecord::Nothing) => println!(rt; "nothing is left."),
         Err(NoRecord::Unknown) => println!(rt; "a byte that is no kind."),
-        Err(NoRecord::Cut(kind)) => println!(rt; "a record that is cut, {}.", name(kind)),
+        Err(NoRecord::Cut(kind)) => println!(rt; "a record that is cut, {kind}."),
     }
 }
 

@@ -2,6 +2,8 @@
 ghost use Rattle.std.specs.Prelude.{◌≡◌};
 ghost use Rattle.records.specs.Kinds.{byte_of, Decodes};
 
+use std::fmt;
+
 #[derive(Clone, Copy, Debug, PartialEq, Eq)]
 pub enum Kind {
     Head,
@@ -82,5 +84,31 @@ impl From<Kind> for u8 {
             Kind::InputOn => 0x61,
             Kind::Scan => 0x62,
         }
+    }
+}
+
+// The names of the rules.
+impl fmt::Display for Kind {
+    fn fmt<W: fmt::Write>(&self, f: &mut fmt::Formatter<W>) -> fmt::Result {
+        f.write_str(match self {
+            Kind::Head => "HEAD",
+            Kind::Start => "START",
+            Kind::Input => "INPUT contact",
+            Kind::Coil => "COIL contact",
+            Kind::Constant => "CONSTANT",
+            Kind::Not => "NOT",
+            Kind::And => "AND",
+            Kind::Or => "OR",
+            Kind::Rung => "RUNG",
+            Kind::Condition => "CONDITION",
+            Kind::End => "END",
+            Kind::Step => "STEP",
+            Kind::Qed => "QED",
+            Kind::Safe => "SAFE",
+            Kind::Invariant => "INVARIANT",
+            Kind::Trace => "TRACE",
+            Kind::InputOn => "INPUT-ON",
+            Kind::Scan => "SCAN",
+        })
     }
 }
