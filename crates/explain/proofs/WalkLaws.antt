@@ -12,7 +12,7 @@ use Rattle.records.specs.declared.Record.{Record}
 use Rattle.records.specs.declared.NoRecord.{NoRecord}
 use Rattle.records.proofs.FrontLaws.{passes}
 
-nearer : (s : List ℕ) (at : ℕ) (x : Record) → FoundAt s at (Ok x) → length s - x.next < length s - at
+pub nearer : (s : List ℕ) (at : ℕ) (x : Record) → FoundAt s at (Ok x) → length s - x.next < length s - at
 nearer s at x f = let p = passes s at x f in omega (arith, p.after, p.within)
 
 pub nears : (s : List ℕ) (at : ℕ) (r : Result Record NoRecord) (x : Record) → FoundAt s at r → result_ok r ≡ Some x

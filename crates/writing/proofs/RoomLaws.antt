@@ -15,7 +15,7 @@ use Rattle.writing.specs.Room.{feed, numbered, pair_line, enough, Put, Lined}
 use Rattle.writing.proofs.DecimalLaws.{digits_fit}
 
 -- two words with numbers, and the line feed
-pair_length : (a : List ℕ) (n : ℕ) (b : List ℕ) (m : ℕ) → length (pair_line a n b m) ≡ length (numbered a n) + length (numbered b m) + 1
+pub pair_length : (a : List ℕ) (n : ℕ) (b : List ℕ) (m : ℕ) → length (pair_line a n b m) ≡ length (numbered a n) + length (numbered b m) + 1
 pair_length a n b m =
     length-append (numbered a n ++ numbered b m) feed ∙ ap (λ (k : ℕ). k + 1) (length-append (numbered a n) (numbered b m))
 
