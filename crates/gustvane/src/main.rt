@@ -14,7 +14,6 @@ use std::io;
 use std::io::Print;
 
 // The line for two files' bytes, which may come cut one byte past their bounds.
-#[tactic(auto, using(crate::proofs::ProgramLaws::verdict))]
 fn write_verdict(sheet: &[u8], certificate: &[u8], out: &mut [u8]) -> usize
     requires { enough ≤ length out.old }
     ensures { Lined (verdict_line sheet.now certificate.now) out.old out.new result }

@@ -1,7 +1,12 @@
 -- The line that the program writes, byte by byte.
-use Rattle.std.specs.Prelude.{ℕ, List, [], ◌∷◌, ◌++◌}
-use Rattle.rules.specs.Verdict.{Verdict, Verdict.accepted, Verdict.confirmed, Verdict.refused}
+use Rattle.std.specs.Prelude.{ℕ, ◌≡◌, List, [], ◌∷◌, ◌++◌, Result, Ok, Err}
+use Rattle.rules.specs.declared.Answer.{Answer}
+use Rattle.rules.specs.declared.refusals.Refusal.{Refusal}
+use Rattle.rules.specs.Fault.{number_of}
+use Rattle.rules.specs.Walk.{◌at◌}
+use Rattle.rules.specs.Verdict.{Verdict, Verdict.accepted, Verdict.confirmed, Verdict.refused, answer_of}
 use Rattle.writing.specs.Room.{feed, numbered, pair_line}
+use Rattle.line.specs.declared.Told.{Told}
 
 -- `accepted`
 abbrev pub word_accepted : List ℕ
@@ -37,6 +42,20 @@ unfoldable pub line_of : Verdict → List ℕ
 line_of accepted = accepted_line
 line_of (confirmed m) = confirmed_line m
 line_of (refused x) = refused_line x.no x.place
+
+-- what is told of a refusal: its number and its place
+abbrev pub told_of : Refusal → Told
+told_of x = record { number = number_of x.fault; place = x.place }
+
+-- the verdict of an answer that is refused with any number at a place
+unfoldable pub told_verdict : Result Answer Told → Verdict
+told_verdict (Ok a) = answer_of (Ok a)
+told_verdict (Err t) = refused (t.number at t.place)
+
+-- the verdict v of an answer that is refused with what converts to a number at a place
+unfoldable pub Tells : {E : Type 0} → (E → Told → Type 0) → Result Answer E → Verdict → Type 0
+Tells converts (Ok a) v = v ≡ told_verdict (Ok a)
+Tells converts (Err e) v = (t : Told) × converts e t × (v ≡ told_verdict (Err t))
 
 -- where a file cannot be read
 abbrev pub unreadable_line : List ℕ
