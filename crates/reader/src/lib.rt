@@ -36,3 +36,17 @@ impl<'a> Reader<'a> {
         records::due_at(self.src, self.at, faults, allowed)
     }
 }
+
+// The first record of a sheet or a certificate.
+pub fn first(s: &[u8]) -> Result<Record, NoRecord>
+    ensures { FoundAt s.now 0 result }
+{
+    Reader::new(s).next()
+}
+
+// The record at an offset.
+pub fn found_at(s: &[u8], at: usize) -> Result<Record, NoRecord>
+    ensures { FoundAt s.now at result }
+{
+    Reader { src: s, at }.next()
+}
