@@ -1,7 +1,7 @@
 -- A set on lent places: only how many places there are matters.
 -- Assumes nothing.
 use Prim.Native.Nat.{ℕ}
-use mathlib.Core.Path.{◌≡◌}
+use mathlib.Core.Path.{◌≡◌, refl, sym, ap, ◌∙◌, subst}
 use mathlib.Core.List.{List}
 use native.Mathlib.Omega.{arith}
 use lib.ListN.{length}
@@ -9,8 +9,16 @@ use Rattle.rules.specs.declared.Limits.{Limits}
 use Rattle.rules.specs.Formula.{Formula}
 use Rattle.rules.specs.Sheet.{Sheet}
 use Rattle.rules.specs.Certificate.{Which}
+use Rattle.rules.specs.declared.Set.{Set}
+use Rattle.rules.specs.declared.Set.TheVariants.{Start, Keep, Safe}
+use Rattle.rules.specs.declared.refusals.Fault.{Fault}
+use Rattle.rules.specs.Verdict.{which_of, number_of_set, NamesSet}
+use Rattle.base.specs.Pick.{pick}
+use lib.Dec.{eqb}
+use Rattle.std.specs.Prelude.{Result, Ok, Err}
+use Rattle.std.specs.Result.{result_unwrap_or}
 use Rattle.clauses.specs.declared.Layout.{Layout}
-use Rattle.clauses.specs.Sets.{Given, Held, SetThere, ClauseSetAt, SetWritten, ClauseSetWritten}
+use Rattle.clauses.specs.Sets.{Given, Held, SetThere, ClauseSetAt, SetWritten, ClauseSetWritten, SetOfNumber}
 
 module _ (s c : List ℕ) (h : Layout) (before after stack before' after' : List ℕ) (b : length before' ≡ length before) (a : length after' ≡ length after) where
   over : (l : Limits) (t : Sheet) (inv : Formula) (rest : List ℕ) → Held l s c h before after stack t inv rest → Held l s c h before' after' stack t inv rest
@@ -76,3 +84,23 @@ module _ (s c : List ℕ) (h : Layout) (before after stack : List ℕ) (b : leng
 
   pub own_written : (w : Which) (out out' : List ℕ) (r : ℕ) → ClauseSetWritten w s c h before after stack out out' r → SetWritten w s c h out out' r
   own_written w out out' r x = record { of = λ l t inv rest v. x.of l t inv rest (held l t inv rest v) }
+
+-- a number names one set
+set_of : ℕ → Set
+set_of n = pick (eqb n 1) Start (pick (eqb n 2) Keep Safe)
+
+back : (w : Set) → set_of (number_of_set w) ≡ w
+unfolding set_of
+back Start = refl
+back Keep = refl
+back Safe = refl
+
+named : (n : ℕ) (r : Result Set Fault) → NamesSet n r → (w : Set) → n ≡ number_of_set w → result_unwrap_or r Safe ≡ w
+named n (Ok v) e w k = sym (back v) ∙ ap set_of (sym e ∙ k) ∙ back w
+named n (Err f) e w k = absurd (e.1 w k)
+
+pub by_number : (n k : ℕ) (r : Result Set Fault) (v : Set) → k ≡ n → NamesSet k r → v ≡ result_unwrap_or r Safe → (s c : List ℕ) (h : Layout) (before after stack out out' : List ℕ) (m : ℕ)
+    → ClauseSetWritten (which_of v) s c h before after stack out out' m → SetOfNumber n s c h before after stack out out' m
+by_number n k r v q e u s c h before after stack out out' m x = record {
+  of = λ w i. subst (λ z. ClauseSetWritten (which_of z) s c h before after stack out out' m) (u ∙ named k r e w (q ∙ i)) x;
+}

@@ -5,7 +5,9 @@ use Rattle.rules.specs.declared.Limits.{Limits}
 use Rattle.rules.specs.Formula.{Formula}
 use Rattle.rules.specs.Sheet.{Sheet}
 use Rattle.rules.specs.WriteSheet.{write_formula, write_start, write_sheet, WithinSheet}
+use Rattle.rules.specs.declared.Set.{Set}
 use Rattle.rules.specs.Certificate.{Which}
+use Rattle.rules.specs.Verdict.{which_of, number_of_set}
 use Rattle.rules.specs.WriteCertificate.{WithinInvariant}
 use Rattle.rules.specs.Clauses.{clause_set}
 use Rattle.clauses.specs.declared.Layout.{Layout}
@@ -82,3 +84,7 @@ pub record Fresh (before after : List ℕ) : Type 0 where
 -- whatever sheet and invariant stand there, for whatever limits, their set was written
 pub record ClauseSetWritten (w : Which) (s c : List ℕ) (h : Layout) (before after stack out out' : List ℕ) (r : ℕ) : Type 0 where
   pub of : (l : Limits) (t : Sheet) (inv : Formula) (rest : List ℕ) → Held l s c h before after stack t inv rest → Emitted out 0 (clause_set t inv w) out' r
+
+-- the same by the set's number from 1 to 3
+pub record SetOfNumber (n : ℕ) (s c : List ℕ) (h : Layout) (before after stack out out' : List ℕ) (r : ℕ) : Type 0 where
+  pub of : (w : Set) → n ≡ number_of_set w → ClauseSetWritten (which_of w) s c h before after stack out out' r

@@ -14,6 +14,7 @@ ghost use Rattle.clauses.specs.Translated.{Fitting, layout_of, Translated};
 
 use rules::{Refusal, Set, Sheet};
 use sheets::Outline;
+pub use starts::Begun;
 
 // The variables of the coils, and that of the first input.
 #[derive(Clone, Copy, Debug)]

@@ -4,7 +4,7 @@ ghost use Rattle.rules.specs.Certificate.{Which.start, Which.keep, Which.safe};
 ghost use Rattle.rules.specs.Verdict.{which_of};
 ghost use Rattle.clauses.specs.Formed.{FormulaAt, TopWritten, FormulaPassed};
 ghost use Rattle.clauses.specs.Runged.{RungsAt, RungsWritten};
-ghost use Rattle.clauses.specs.Sets.{Numbered, Fresh, ClauseSetAt, ClauseSetWritten, SetThere, SetWritten};
+ghost use Rattle.clauses.specs.Sets.{Numbered, Fresh, ClauseSetAt, ClauseSetWritten, SetOfNumber, SetThere, SetWritten};
 
 use super::formula::formula_clauses;
 use super::gates::unit;
@@ -178,23 +178,26 @@ fn safe_set(
 
 // Places for a set: the coils' variables before and after the scan, and a formula's stack.
 #[derive(Drop)]
-pub struct Scratch<'a> {
+pub struct Scratch<'a, 'b, 'c> {
     pub before: &'a mut [u16],
-    pub after: &'a mut [u16],
-    pub stack: &'a mut [u16],
+    pub after: &'b mut [u16],
+    pub stack: &'c mut [u16],
 }
 
-// One of the three sets, as far as there is room for it; answers how many clauses it has.
-pub fn clause_set(
+// The set, as far as there is room for it, on lent places; answers how many clauses it has.
+fn set_clauses(
     set: Set,
     s: &[u8],
     c: &[u8],
     h: Layout,
-    scratch: Scratch<'_>,
+    scratch: Scratch<'_, '_, '_>,
     out: &mut [u16],
 ) -> usize
     requires { ClauseSetAt s.now c.now h scratch.before.now scratch.after.now scratch.stack.now }
-    ensures { ClauseSetWritten (which_of set) s.now c.now h scratch.entry.before.now scratch.entry.after.now scratch.entry.stack.now out.old out.new result }
+    ensures written { ClauseSetWritten (which_of set) s.now c.now h scratch.entry.before.now scratch.entry.after.now scratch.entry.stack.now out.old out.new result }
+    ensures before_long { length scratch.exit.0.now ≡ length scratch.entry.before.now }
+    ensures after_long { length scratch.exit.1.0.now ≡ length scratch.entry.after.now }
+    ensures stack_long { length scratch.exit.1.1.0.now ≡ length scratch.entry.stack.now }
 {
     let Scratch {
         before,
@@ -210,6 +213,36 @@ pub fn clause_set(
     }
 }
 
+// The set of a number from 1 to 3, as far as there is room for it; answers how many clauses it has. The lent places may serve
+// again for another set.
+pub fn clause_set(
+    which: u8,
+    s: &[u8],
+    c: &[u8],
+    h: Layout,
+    scratch: Scratch<'_, '_, '_>,
+    out: &mut [u16],
+) -> usize
+    requires { ClauseSetAt s.now c.now h scratch.before.now scratch.after.now scratch.stack.now }
+    ensures written { SetOfNumber which s.now c.now h scratch.entry.before.now scratch.entry.after.now scratch.entry.stack.now out.old out.new result }
+    ensures before_long { length scratch.exit.0.now ≡ length scratch.entry.before.now }
+    ensures after_long { length scratch.exit.1.0.now ≡ length scratch.entry.after.now }
+    ensures stack_long { length scratch.exit.1.1.0.now ≡ length scratch.entry.stack.now }
+{
+    let set = Set::try_from(u32::from(which)).unwrap_or(Set::Safe);
+    let Scratch {
+        before,
+        after,
+        stack,
+    } = scratch;
+    let scratch = Scratch {
+        before,
+        after,
+        stack,
+    };
+    set_clauses(set, s, c, h, scratch, out)
+}
+
 // The same on places of its own, enough for the base limits.
 pub fn write_clauses(set: Set, s: &[u8], c: &[u8], h: Layout, out: &mut [u16]) -> usize
     requires { SetThere s.now c.now h }
@@ -223,5 +256,5 @@ pub fn write_clauses(set: Set, s: &[u8], c: &[u8], h: Layout, out: &mut [u16]) -
         after: &mut after,
         stack: &mut stack,
     };
-    clause_set(set, s, c, h, scratch, out)
+    set_clauses(set, s, c, h, scratch, out)
 }
