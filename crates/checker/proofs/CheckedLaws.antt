@@ -29,7 +29,7 @@ use Rattle.reading.proofs.InvariantLaws.{InvariantWritten, invariant_written}
 use Rattle.sheets.specs.declared.Outline.{Outline}
 use Rattle.sheets.specs.declared.Invariant.{Invariant}
 use Rattle.sheets.specs.declared.Opening.TheVariants.{Safe, Trace}
-use Rattle.sheets.specs.Answer.{Outlined, Says, ReadAs}
+use Rattle.sheets.specs.Answer.{Outlined, Says}
 use Rattle.sheets.specs.Certificate.{opening_kinds, opened_as, InvariantThere, InvariantSays, InvariantAs}
 use Rattle.clauses.specs.declared.Layout.{Layout}
 use Rattle.clauses.specs.Translated.{Fitting, layout_of}
@@ -151,17 +151,17 @@ module _ (l : Limits) (s c : List ℕ) (h : Outline) (w : List ℕ) where
   opened_safe f r t a = t a ∙ rw (sym f)
 
 -- the whole sheet first
-module _ (l : Limits) (s c m m' : List ℕ) where
-  pub sheet_bad : (x : Refusal) → ReadAs l s m m' (Err x) → JudgesBytes l s c (Err x)
+module _ (l : Limits) (s c : List ℕ) where
+  pub sheet_bad : (x : Refusal) → Says l s (Err x) → JudgesBytes l s c (Err x)
   unfolding Says judge_certificate answer_of
   sheet_bad x i =
-      let y : read_sheet l s ≡ bad (refusal_of x) = i.answered in
+      let y : read_sheet l s ≡ bad (refusal_of x) = i in
       rw y
 
-  module _ (h : Outline) (i : ReadAs l s m m' (Ok h)) (w : List ℕ) (k : Lent l w) (bs : Bytes s) (bc : Bytes c) where
+  module _ (h : Outline) (i : Says l s (Ok h)) (w : List ℕ) (k : Lent l w) (bs : Bytes s) (bc : Bytes c) where
     outlined : Outlined l s h
     unfolding Says
-    outlined = i.answered
+    outlined = i
 
     pub opened_for : OpenedFor l s c h w
     opened_for = record { lent = k; outlined = outlined; sheet_bytes = bs; bytes = bc }

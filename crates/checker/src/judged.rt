@@ -1,4 +1,6 @@
 // The whole sheet first, then the certificate: a trace or a safety certificate.
+ghost use Rattle.std.specs.Prelude.{◌≤◌};
+ghost use Rattle.sheets.specs.Answer.{Says};
 ghost use Rattle.checker.specs.Checked.{JudgesSafe, OpenedFor, JudgesOpened, Lent, JudgesBytes};
 
 use super::refuted::judge_refutations;
@@ -39,12 +41,21 @@ fn judge_opened(
     }
 }
 
+// The sheet, read with marks that are no part of the stack afterwards.
+#[inline(never)]
+fn outline(l: Limits, s: &[u8]) -> Result<Outline, Refusal>
+    requires { l.coils ≤ 256 }
+    ensures { Says l s.now result }
+{
+    let mut marks = [0u16; Sheet::COILS];
+    sheets::read_sheet(l, s, &mut marks)
+}
+
 // Any bytes, in a workspace that is long enough.
 pub fn judge_bytes(l: Limits, s: &[u8], c: &[u8], work: &mut [u16]) -> Result<Answer, Refusal>
     requires { Lent l work.old }
     ensures { JudgesBytes l s.now c.now result }
 {
-    let mut marks = [0u16; Sheet::COILS];
-    let h = sheets::read_sheet(l, s, &mut marks)?;
+    let h = outline(l, s)?;
     judge_opened(l, s, c, h, work)
 }

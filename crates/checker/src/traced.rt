@@ -38,7 +38,8 @@ fn play(
     trace::replay(l, t, c, inputs, coils, stack)
 }
 
-// A trace over a good sheet.
+// A trace over a good sheet. Its places are no part of the stack where the certificate is no trace.
+#[inline(never)]
 pub fn judge_trace(l: Limits, s: &[u8], c: &[u8], h: Outline) -> Result<Answer, Refusal>
     requires { TracedAt l s.now c.now h }
     ensures { Traces l s.now c.now h result }

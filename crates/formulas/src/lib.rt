@@ -18,6 +18,8 @@ pub enum Part {
     Closing,
 }
 
+// Inlined into the two loops over a formula's records, which would else take each part through memory.
+#[inline(always)]
 #[tactic(auto, using(crate::proofs::PartLaws::part_at_cases))]
 pub fn part_at(s: &[u8], at: usize) -> Part
     ensures { result ≡ part_of (drop at s.now) }

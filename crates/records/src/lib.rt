@@ -71,7 +71,8 @@ impl From<UnknownKind> for NoRecord {
     }
 }
 
-// What stands at an offset.
+// What stands at an offset. Inlined, since each reader of records has one call of it in its loop.
+#[inline(always)]
 pub fn record_at(s: &[u8], at: usize) -> Result<Record, NoRecord>
     ensures { FoundAt s.now at result }
 {

@@ -79,6 +79,7 @@ pub(crate) fn push(b: Scope, p: Pile, taken: usize) -> Result<Pile, FormulaFault
 }
 
 // The formula record of this kind at an offset.
+#[inline(always)]
 #[tactic(auto, using(crate::proofs::PileLaws::formula_record_cases))]
 pub(crate) fn formula_record(
     b: Scope,
