@@ -1,7 +1,7 @@
 -- The bounds of the two files, by the tests of the code.
 -- Assumes nothing.
 use Prim.Native.Nat.{ℕ, ◌≤◌}
-use mathlib.Core.Path.{◌≡◌, refl}
+use mathlib.Core.Path.{◌≡◌, refl, subst}
 use mathlib.Core.Bool.{Bool, true, false, ◌&&◌}
 use mathlib.Core.List.{List}
 use lib.ListN.{length}
@@ -52,11 +52,14 @@ module _ (s c w : List ℕ) where
         low false q = refl
         low true q = high (leb n 3) (leb-true 1 n q) refl
 
-    pub no_set : (f : Fault) → NamesSet n (Err f) → Translates base_limits base_bounds n s c w w (Err (record { fault = f; place = 0 }))
+    pub no_set : (k : ℕ) → k ≡ n → (f : Fault) → NamesSet k (Err f) → Translates base_limits base_bounds n s c w w (Err (record { fault = f; place = 0 }))
     unfolding translate_files written_of count_of room_after
-    no_set f e = let b = unnamed f e in let g = e.0 in record { answered = rw (b, g); left = rw b }
+    no_set k q f h = let e : NamesSet n (Err f) = subst (λ i. NamesSet i (Err f)) q h in let b = unnamed f e in let g = e.0 in record { answered = rw (b, g); left = rw b }
 
-    module _ (x : Set) (e : NamesSet n (Ok x)) where
+    module _ (k : ℕ) (q : k ≡ n) (x : Set) (h : NamesSet k (Ok x)) where
+      e : NamesSet n (Ok x)
+      e = subst (λ i. NamesSet i (Ok x)) q h
+
       pub withheld_27 : too_long base_bounds s c ≡ true → Translates base_limits base_bounds n s c w w (Err (record { fault = FileSize; place = 0 }))
       unfolding translate_files written_of count_of room_after
       withheld_27 o = let b = named x e in record { answered = rw (b, o); left = rw (b, o) }

@@ -43,15 +43,15 @@ module _ (part : Part) (i c m d : ℕ) (a : Applicable part i c m d) where
   unfolding entry_for arity
   room_constant b e = let h = room 0 (rw e) in omega arith
 
-  one_not : part ≡ Not → 1 ≤ d
+  pub one_not : part ≡ Not → 1 ≤ d
   unfolding entry_for arity
   one_not e = enough 1 (rw e)
 
-  two_and : part ≡ And → 2 ≤ d
+  pub two_and : part ≡ And → 2 ≤ d
   unfolding entry_for arity
   two_and e = enough 2 (rw e)
 
-  two_or : part ≡ Or → 2 ≤ d
+  pub two_or : part ≡ Or → 2 ≤ d
   unfolding entry_for arity
   two_or e = enough 2 (rw e)
 
