@@ -110,7 +110,7 @@ safe_again l s c h work work' e a = record {
 
 module _ (l : Limits) (s c : List ℕ) (h : Layout) (p : ℕ) (work : List ℕ) where
   -- the refutation that follows, and the one before it
-  passed : (w w' : Which) (work' : List ℕ) (q : ℕ) (r : Result Answer Refusal) → length work' ≡ length work → Refutes l w s c h p work (Ok q)
+  pub passed : (w w' : Which) (work' : List ℕ) (q : ℕ) (r : Result Answer Refusal) → length work' ≡ length work → Refutes l w s c h p work (Ok q)
       → following w ≡ w' → before_it w + 1 ≡ before_it w' → Follows w' l s c h q work' r → Follows w l s c h p work r
   unfolding safe_again
   passed w w' work' q r ew d ef eq f a fuel b =

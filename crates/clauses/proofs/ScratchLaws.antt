@@ -95,12 +95,12 @@ back Start = refl
 back Keep = refl
 back Safe = refl
 
-named : (n : ℕ) (r : Result Set Fault) → NamesSet n r → (w : Set) → n ≡ number_of_set w → result_unwrap_or r Safe ≡ w
-named n (Ok v) e w k = sym (back v) ∙ ap set_of (sym e ∙ k) ∙ back w
-named n (Err f) e w k = absurd (e.1 w k)
+named : (n : ℕ) (r : Result Set Fault) → NamesSet n r → (d w : Set) → n ≡ number_of_set w → result_unwrap_or r d ≡ w
+named n (Ok v) e d w k = sym (back v) ∙ ap set_of (sym e ∙ k) ∙ back w
+named n (Err f) e d w k = absurd (e.1 w k)
 
-pub by_number : (n k : ℕ) (r : Result Set Fault) (v : Set) → k ≡ n → NamesSet k r → v ≡ result_unwrap_or r Safe → (s c : List ℕ) (h : Layout) (before after stack out out' : List ℕ) (m : ℕ)
+pub by_number : (n k : ℕ) (r : Result Set Fault) (d v : Set) → k ≡ n → NamesSet k r → v ≡ result_unwrap_or r d → (s c : List ℕ) (h : Layout) (before after stack out out' : List ℕ) (m : ℕ)
     → ClauseSetWritten (which_of v) s c h before after stack out out' m → SetOfNumber n s c h before after stack out out' m
-by_number n k r v q e u s c h before after stack out out' m x = record {
-  of = λ w i. subst (λ z. ClauseSetWritten (which_of z) s c h before after stack out out' m) (u ∙ named k r e w (q ∙ i)) x;
+by_number n k r d v q e u s c h before after stack out out' m x = record {
+  of = λ w i. subst (λ z. ClauseSetWritten (which_of z) s c h before after stack out out' m) (u ∙ named k r e d w (q ∙ i)) x;
 }

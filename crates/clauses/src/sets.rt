@@ -184,8 +184,8 @@ pub struct Scratch<'a, 'b, 'c> {
     pub stack: &'c mut [u16],
 }
 
-// The set, as far as there is room for it, on lent places; answers how many clauses it has.
-fn set_clauses(
+// The set, as far as there is room for it, on lent places, which may serve again for another set; answers how many clauses it has.
+pub fn set_clauses(
     set: Set,
     s: &[u8],
     c: &[u8],
@@ -213,8 +213,7 @@ fn set_clauses(
     }
 }
 
-// The set of a number from 1 to 3, as far as there is room for it; answers how many clauses it has. The lent places may serve
-// again for another set.
+// The same by a set's number from 1 to 3.
 pub fn clause_set(
     which: u8,
     s: &[u8],

@@ -254,13 +254,13 @@ module _ (l : Limits) (a : Ladder) (c : List ℕ) (m₀ : Places) where
             go zero b e = let j = here.inside in absurd (omega arith)
             go (suc k) b e = sym (y k) ∙ e
 
-        at_no : (n : Fault) → r ≡ Err n → answer_of (Err (record { fault = n; place = p.at })) ≡ judge_scans t c (unplayed t) (read_scans l t c)
+        pub at_no : (n : Fault) → r ≡ Err n → answer_of (Err (record { fault = n; place = p.at })) ≡ judge_scans t c (unplayed t) (read_scans l t c)
         unfolding walk judge_scans answer_of
         at_no n e =
             let z = no_move t m'.inputs.now m'.coils.now here.g _ r _ stepped.follows n e in
             closes (Err (record { fault = n; place = p.at })) (λ k. rw (z, walk))
 
-        at_done : r ≡ Ok None → (x : Result Answer Told) → Finishes c p x → answer_of x ≡ judge_scans t c (unplayed t) (read_scans l t c)
+        pub at_done : r ≡ Ok None → (x : Result Answer Told) → Finishes c p x → answer_of x ≡ judge_scans t c (unplayed t) (read_scans l t c)
         unfolding walk judge_scans
         at_done e x b =
             let z = last_move t m'.inputs.now m'.coils.now here.g _ r _ stepped.follows e in
@@ -270,7 +270,7 @@ module _ (l : Limits) (a : Ladder) (c : List ℕ) (m₀ : Places) where
           further : (p.at < q.at) × (q.at ≤ length c)
           further = subst (λ (x : Step). Inside c p.at x) e stepped.inside
 
-          at_go : PlayingOn l a c m₀ h m' q
+          pub at_go : PlayingOn l a c m₀ h m' q
           unfolding walk judge_scans past
           at_go = again here.fuel here.enough here.from (go_move t m'.inputs.now m'.coils.now here.g _ r _ stepped.follows q e)
             where

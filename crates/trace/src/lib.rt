@@ -12,12 +12,12 @@ use rules::{Answer, Fault, Limits, Refusal};
 // A replay under way: the place of the next record, the lowest input that may be named next (0 where none was named since the last
 // SCAN), the scans so far, the first that broke the condition, and whether the last did.
 #[derive(Clone, Copy)]
-struct Play {
-    at: usize,
-    least: usize,
-    count: usize,
-    first: Option<usize>,
-    broken: bool,
+pub struct Play {
+    pub at: usize,
+    pub least: usize,
+    pub count: usize,
+    pub first: Option<usize>,
+    pub broken: bool,
 }
 
 // A sheet's bytes, where its rungs begin, how many there are, and how many inputs it has.
